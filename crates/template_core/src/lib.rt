@@ -4,11 +4,15 @@
 mod class;
 mod constraint;
 mod counts;
+mod keeping;
 mod kind;
 mod table;
+mod template;
 
 pub use class::Class;
 pub use constraint::{Constraint, class_of};
 pub use counts::{Counts, PairCounts, UnaryCounts};
+pub use keeping::keeps;
 pub use kind::Kind;
 pub use table::Table;
+pub use template::Template;

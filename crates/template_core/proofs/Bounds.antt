@@ -1,0 +1,100 @@
+-- Counters of one log bound each other, so a template's sums and differences fit.
+use Rattle.std.proofs.Common.{ℕ, zero, suc, ◌+◌, ◌≤◌, List, length, sum_by, nat_eq, sym, subst, arith}
+use Rattle.std.proofs.lemmas.List.Sums.{count_by-le-length, sum_by-le-sum_by}
+use Rattle.template_core.specs.Events.{one_if, count_places}
+use Rattle.template_core.specs.Tests.{failing, has, has_next, has_previous}
+use Rattle.template_core.specs.Repertoire.{alternates_later, alternates_earlier}
+use Rattle.template_core.specs.Counters.{occurrences, no_later, no_earlier, rep_later, rep_earlier}
+use Rattle.template_core.proofs.Laws.{sum_by-plus}
+use Rattle.template_core.proofs.Parts.{sum_failing-le, sum_passing-le, failing-alternates_later, failing-alternates_earlier}
+use Rattle.template_core.specs.Counts.{AreCounts, unary_counts, pair_counts, pair_of, no_pair}
+use Rattle.template_core.specs.declared.kind.Kind.{Kind}
+use Rattle.template_core.specs.declared.kind.Kind.TheVariants.{Init, End, Participation, AtMostOne, ChainSuccession, AlternateSuccession, Succession, CoExistence, ChainResponse, AlternateResponse, Response, ChainPrecedence, AlternatePrecedence, Precedence, RespondedExistence, NotCoExistence, NotSuccession, NotChainSuccession}
+use Rattle.template_core.specs.declared.counts.Counts.{Counts}
+use Rattle.template_core.specs.declared.counts.PairCounts.{PairCounts}
+use Rattle.template_core.specs.declared.counts.UnaryCounts.{UnaryCounts}
+
+pub record PairBounds (first : UnaryCounts) (pair : PairCounts) : Type 0 where
+  pub without : pair.without ≤ first.occurrences
+  pub later : pair.no_later + pair.rep_later ≤ first.occurrences
+  pub earlier : pair.no_earlier + pair.rep_earlier ≤ first.occurrences
+  pub next : pair.next ≤ first.occurrences
+  pub previous : pair.previous ≤ first.occurrences
+  pub small : first.occurrences ≤ 16777215
+
+pub record Bounds (counts : Counts) : Type 0 where
+  pub onward : PairBounds counts.first counts.onward
+  pub back : PairBounds counts.second counts.back
+  pub repeated : counts.first.repeated ≤ counts.traces
+
+count_places-le : (p : ℕ → _) (n : ℕ) → count_places p n ≤ n
+unfolding count_places
+count_places-le p zero = omega arith
+count_places-le p (suc n) = omega (arith, count_places-le p n, one (p n))
+  where
+    one : (v : _) → one_if v ≤ 1
+    one v = grind arith
+
+few_occurrences : (a : ℕ) (log : List (List ℕ)) → sum_by (λ trace. length trace) log ≤ 16777215 → sum_by (occurrences nat_eq a) log ≤ 16777215
+few_occurrences a log h = omega (arith, h, sum_by-le-sum_by (occurrences nat_eq a) (λ trace. length trace) log (λ t. count_places-le _ (length t)))
+
+pair_bounds : (a b : ℕ) (log : List (List ℕ)) → sum_by (λ trace. length trace) log ≤ 16777215 → PairBounds (unary_counts a log) (pair_counts a b log)
+pair_bounds a b log h = record {
+  without = sum_failing-le nat_eq a (has nat_eq b) log;
+  later =
+      omega (
+        arith,
+        sum_failing-le nat_eq a (alternates_later nat_eq a b) log,
+        sum_by-plus (no_later nat_eq a b) (rep_later nat_eq a b) (failing nat_eq a (alternates_later nat_eq a b)) (λ t. sym (failing-alternates_later nat_eq a b t)) log,
+      );
+  earlier =
+      omega (
+        arith,
+        sum_failing-le nat_eq a (alternates_earlier nat_eq b a) log,
+        sum_by-plus (no_earlier nat_eq a b) (rep_earlier nat_eq a b) (failing nat_eq a (alternates_earlier nat_eq b a)) (λ t. sym (failing-alternates_earlier nat_eq b a t)) log,
+      );
+  next = sum_passing-le nat_eq a (has_next nat_eq b) log;
+  previous = sum_passing-le nat_eq a (has_previous nat_eq b) log;
+  small = few_occurrences a log h;
+}
+
+no_bounds : (a : ℕ) (log : List (List ℕ)) → sum_by (λ trace. length trace) log ≤ 16777215 → PairBounds (unary_counts a log) no_pair
+no_bounds a log h = record {
+  without = omega arith;
+  later = omega arith;
+  earlier = omega arith;
+  next = omega arith;
+  previous = omega arith;
+  small = few_occurrences a log h;
+}
+
+either_bounds : (kind : Kind) (a b : ℕ) (log : List (List ℕ)) → sum_by (λ trace. length trace) log ≤ 16777215 → PairBounds (unary_counts a log) (pair_of kind a b log)
+either_bounds Init a b log h = no_bounds a log h
+either_bounds End a b log h = no_bounds a log h
+either_bounds Participation a b log h = no_bounds a log h
+either_bounds AtMostOne a b log h = no_bounds a log h
+either_bounds ChainSuccession a b log h = pair_bounds a b log h
+either_bounds AlternateSuccession a b log h = pair_bounds a b log h
+either_bounds Succession a b log h = pair_bounds a b log h
+either_bounds CoExistence a b log h = pair_bounds a b log h
+either_bounds ChainResponse a b log h = pair_bounds a b log h
+either_bounds AlternateResponse a b log h = pair_bounds a b log h
+either_bounds Response a b log h = pair_bounds a b log h
+either_bounds ChainPrecedence a b log h = pair_bounds a b log h
+either_bounds AlternatePrecedence a b log h = pair_bounds a b log h
+either_bounds Precedence a b log h = pair_bounds a b log h
+either_bounds RespondedExistence a b log h = pair_bounds a b log h
+either_bounds NotCoExistence a b log h = pair_bounds a b log h
+either_bounds NotSuccession a b log h = pair_bounds a b log h
+either_bounds NotChainSuccession a b log h = pair_bounds a b log h
+
+repeated-le : (a : ℕ) (log : List (List ℕ)) → (unary_counts a log).repeated ≤ length log
+repeated-le a log = count_by-le-length _ log
+
+pub bounds_of : (kind : Kind) (counts : Counts) → AreCounts kind counts → Bounds counts
+bounds_of kind counts h =
+    subst Bounds (sym h.are) (record {
+      onward = either_bounds kind h.a h.b h.log h.few_events;
+      back = either_bounds kind h.b h.a h.log h.few_events;
+      repeated = repeated-le h.a h.log;
+    })

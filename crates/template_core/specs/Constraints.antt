@@ -1,0 +1,48 @@
+-- Which activities a constraint may have.
+use Rattle.std.specs.Prelude.{◌≡◌, ◌≢◌, ℕ, ◌<◌}
+use Rattle.template_core.specs.declared.constraint.Constraint.{Constraint}
+use Rattle.template_core.specs.declared.kind.Kind.{Kind}
+use Rattle.template_core.specs.declared.kind.Kind.TheVariants.{Init, End, Participation, AtMostOne, ChainSuccession, AlternateSuccession, Succession, CoExistence, ChainResponse, AlternateResponse, Response, ChainPrecedence, AlternatePrecedence, Precedence, RespondedExistence, NotCoExistence, NotSuccession, NotChainSuccession}
+
+-- the number of a template's activities
+abbrev pub arity : Kind → ℕ
+arity Init = 1
+arity End = 1
+arity Participation = 1
+arity AtMostOne = 1
+arity kind = 2
+
+-- the numbers of the templates
+abbrev pub number_of : Kind → ℕ
+number_of Init = 1
+number_of End = 2
+number_of Participation = 3
+number_of AtMostOne = 4
+number_of ChainSuccession = 5
+number_of AlternateSuccession = 6
+number_of Succession = 7
+number_of CoExistence = 8
+number_of ChainResponse = 9
+number_of AlternateResponse = 10
+number_of Response = 11
+number_of ChainPrecedence = 12
+number_of AlternatePrecedence = 13
+number_of Precedence = 14
+number_of RespondedExistence = 15
+number_of NotCoExistence = 16
+number_of NotSuccession = 17
+number_of NotChainSuccession = 18
+
+-- a template of two activities has two different ones; of a template of one activity both numbers are that one
+abbrev pub IsWellMade : Kind → ℕ → ℕ → Type 0
+IsWellMade Init a b = a ≡ b
+IsWellMade End a b = a ≡ b
+IsWellMade Participation a b = a ≡ b
+IsWellMade AtMostOne a b = a ≡ b
+IsWellMade kind a b = a ≢ b
+
+-- a constraint over n activities
+pub record IsWellMadeFor (n : ℕ) (c : Constraint) : Type 0 where
+  pub first : c.first < n
+  pub second : c.second < n
+  pub made : IsWellMade c.kind c.first c.second

@@ -1,0 +1,101 @@
+-- The repertoire: at which places of a trace a constraint is activated, and where it is fulfilled.
+-- A trace of n events has the places 0 to n - 1, which are its events, and the place n, which stands for the whole trace.
+use Rattle.std.specs.Prelude.{◌≡◌, ℕ, suc, ◌≤◌, List, Bool, true, false, ◌&&◌, ◌||◌, not, if◌then◌else◌, ◌==◌, length, sum_by, nat_lt}
+use Rattle.template_core.specs.Counters.{occurrences}
+use Rattle.template_core.specs.Events.{count_places, at_place, occurs, is_first, is_last, before_first, after_last}
+use Rattle.template_core.specs.Tests.{has, has_later, has_earlier, has_next, has_previous}
+use Rattle.template_core.specs.declared.kind.Kind.{Kind}
+use Rattle.template_core.specs.declared.kind.Kind.TheVariants.{Init, End, Participation, AtMostOne, ChainSuccession, AlternateSuccession, Succession, CoExistence, ChainResponse, AlternateResponse, Response, ChainPrecedence, AlternatePrecedence, Precedence, RespondedExistence, NotCoExistence, NotSuccession, NotChainSuccession}
+
+module _ {A : Type 0} (same : A → A → Bool) where
+  -- the event is a; the event is a or b
+  abbrev pub each : A → List A → A → List A → Bool
+  each a before event after = same event a
+
+  abbrev pub each_of : A → A → List A → A → List A → Bool
+  each_of a b before event after = same event a || same event b
+
+  -- one test at a, and another at each other event
+  abbrev pub at_first : A → (List A → A → List A → Bool) → (List A → A → List A → Bool) → List A → A → List A → Bool
+  at_first a p q before event after = if same event a then p before event after else q before event after
+
+  abbrev pub none : (List A → A → List A → Bool) → List A → A → List A → Bool
+  none p before event after = not (p before event after)
+
+  -- some later event is b, and no a stands before the nearest; some earlier event is a, and no b stands after the nearest
+  abbrev pub alternates_later : A → A → List A → A → List A → Bool
+  alternates_later a b before event after = occurs same b after && not (occurs same a (before_first same b after))
+
+  abbrev pub alternates_earlier : A → A → List A → A → List A → Bool
+  alternates_earlier a b before event after = occurs same a before && not (occurs same b (after_last same a before))
+
+  -- the events that activate a template; no event activates a template of one activity
+  abbrev pub activates : Kind → A → A → List A → A → List A → Bool
+  activates Init a b before event after = false
+  activates End a b before event after = false
+  activates Participation a b before event after = false
+  activates AtMostOne a b before event after = false
+  activates ChainSuccession a b before event after = each_of a b before event after
+  activates AlternateSuccession a b before event after = each_of a b before event after
+  activates Succession a b before event after = each_of a b before event after
+  activates CoExistence a b before event after = each_of a b before event after
+  activates ChainResponse a b before event after = each a before event after
+  activates AlternateResponse a b before event after = each a before event after
+  activates Response a b before event after = each a before event after
+  activates ChainPrecedence a b before event after = each b before event after
+  activates AlternatePrecedence a b before event after = each b before event after
+  activates Precedence a b before event after = each b before event after
+  activates RespondedExistence a b before event after = each a before event after
+  activates NotCoExistence a b before event after = each_of a b before event after
+  activates NotSuccession a b before event after = each_of a b before event after
+  activates NotChainSuccession a b before event after = each_of a b before event after
+
+  -- where such an event fulfils it
+  abbrev pub fulfils : Kind → A → A → List A → A → List A → Bool
+  fulfils Init a b before event after = false
+  fulfils End a b before event after = false
+  fulfils Participation a b before event after = false
+  fulfils AtMostOne a b before event after = false
+  fulfils ChainSuccession a b before event after = at_first a (has_next same b) (has_previous same a) before event after
+  fulfils AlternateSuccession a b before event after = at_first a (alternates_later a b) (alternates_earlier a b) before event after
+  fulfils Succession a b before event after = at_first a (has_later same b) (has_earlier same a) before event after
+  fulfils CoExistence a b before event after = at_first a (has same b) (has same a) before event after
+  fulfils ChainResponse a b before event after = has_next same b before event after
+  fulfils AlternateResponse a b before event after = alternates_later a b before event after
+  fulfils Response a b before event after = has_later same b before event after
+  fulfils ChainPrecedence a b before event after = has_previous same a before event after
+  fulfils AlternatePrecedence a b before event after = alternates_earlier a b before event after
+  fulfils Precedence a b before event after = has_earlier same a before event after
+  fulfils RespondedExistence a b before event after = has same b before event after
+  fulfils NotCoExistence a b before event after = at_first a (none (has same b)) (none (has same a)) before event after
+  fulfils NotSuccession a b before event after = at_first a (none (has_later same b)) (none (has_earlier same a)) before event after
+  fulfils NotChainSuccession a b before event after = at_first a (none (has_next same b)) (none (has_previous same a)) before event after
+
+  -- a template of one activity is activated at the place of the whole trace
+  abbrev pub is_activated : Kind → A → A → List A → ℕ → Bool
+  is_activated Init a b trace place = place == length trace
+  is_activated End a b trace place = place == length trace
+  is_activated Participation a b trace place = place == length trace
+  is_activated AtMostOne a b trace place = place == length trace
+  is_activated kind a b trace place = at_place (activates kind a b) trace place
+
+  -- and fulfilled where the trace begins with a; ends with a; has an a; has no two
+  abbrev pub is_fulfilled : Kind → A → A → List A → ℕ → Bool
+  is_fulfilled Init a b trace place = is_first same a trace
+  is_fulfilled End a b trace place = is_last same a trace
+  is_fulfilled Participation a b trace place = occurs same a trace
+  is_fulfilled AtMostOne a b trace place = nat_lt (occurrences same a trace) 2
+  is_fulfilled kind a b trace place = at_place (fulfils kind a b) trace place
+
+  -- a trace keeps a constraint where each activated place is fulfilled
+  abbrev pub Keeps : Kind → A → A → List A → Type 0
+  Keeps kind a b trace =
+      (place : ℕ) → place ≤ length trace → is_activated kind a b trace place ≡ true → is_fulfilled kind a b trace place ≡ true
+
+  -- how many places of the traces of a log are activated, and how many are activated and fulfilled
+  abbrev pub activated : Kind → A → A → List (List A) → ℕ
+  activated kind a b log = sum_by (λ trace. count_places (is_activated kind a b trace) (suc (length trace))) log
+
+  abbrev pub fulfilled : Kind → A → A → List (List A) → ℕ
+  fulfilled kind a b log =
+      sum_by (λ trace. count_places (λ place. is_activated kind a b trace place && is_fulfilled kind a b trace place) (suc (length trace))) log

@@ -1,0 +1,4 @@
+pub mod AtMostOne
+pub mod End
+pub mod Init
+pub mod Participation

@@ -1,6 +1,7 @@
 pub mod Bounds
 pub mod Counters
 pub mod Gains
+pub mod KeepsTest
 pub mod Laws
 pub mod Pairs
 pub mod Parts

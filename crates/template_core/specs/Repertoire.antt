@@ -2,7 +2,7 @@
 -- A trace of n events has the places 0 to n - 1, which are its events, and the place n, which stands for the whole trace.
 use Rattle.std.specs.Prelude.{◌≡◌, ℕ, suc, ◌≤◌, List, Bool, true, false, ◌&&◌, ◌||◌, not, if◌then◌else◌, ◌==◌, length, sum_by, nat_lt}
 use Rattle.template_core.specs.Counters.{occurrences}
-use Rattle.template_core.specs.Events.{count_places, at_place, occurs, is_first, is_last, before_first, after_last}
+use Rattle.template_core.specs.Events.{count_places, all_places, at_place, occurs, is_first, is_last, before_first, after_last}
 use Rattle.template_core.specs.Tests.{has, has_later, has_earlier, has_next, has_previous}
 use Rattle.template_core.specs.declared.kind.Kind.{Kind}
 use Rattle.template_core.specs.declared.kind.Kind.TheVariants.{Init, End, Participation, AtMostOne, ChainSuccession, AlternateSuccession, Succession, CoExistence, ChainResponse, AlternateResponse, Response, ChainPrecedence, AlternatePrecedence, Precedence, RespondedExistence, NotCoExistence, NotSuccession, NotChainSuccession}
@@ -91,6 +91,11 @@ module _ {A : Type 0} (same : A → A → Bool) where
   abbrev pub Keeps : Kind → A → A → List A → Type 0
   Keeps kind a b trace =
       (place : ℕ) → place ≤ length trace → is_activated kind a b trace place ≡ true → is_fulfilled kind a b trace place ≡ true
+
+  -- the same as a test
+  abbrev pub keeps : Kind → A → A → List A → Bool
+  keeps kind a b trace =
+      all_places (λ place. not (is_activated kind a b trace place) || is_fulfilled kind a b trace place) (suc (length trace))
 
   -- how many places of the traces of a log are activated, and how many are activated and fulfilled
   abbrev pub activated : Kind → A → A → List (List A) → ℕ

@@ -1,0 +1,3 @@
+pub mod NotChainSuccession
+pub mod NotCoExistence
+pub mod NotSuccession

@@ -1,0 +1,11 @@
+pub mod AlternatePrecedence
+pub mod AlternateResponse
+pub mod AlternateSuccession
+pub mod ChainPrecedence
+pub mod ChainResponse
+pub mod ChainSuccession
+pub mod CoExistence
+pub mod Precedence
+pub mod RespondedExistence
+pub mod Response
+pub mod Succession

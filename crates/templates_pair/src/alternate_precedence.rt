@@ -1,0 +1,73 @@
+use template_core::{Class, Counts, Template};
+
+/// Before each b stands an a, with no other b after it.
+pub struct AlternatePrecedence;
+
+impl Template for AlternatePrecedence {
+    ghost use Rattle.std.proofs.Common.{refl};
+    ghost use Rattle.std.specs.Prelude.{nat_eq, ◌-◌, ◌+◌};
+    ghost use Rattle.template_core.specs.Repertoire.{none};
+    ghost use Rattle.template_core.specs.declared.kind.Kind.TheVariants.{AlternatePrecedence as the_kind};
+    ghost use Rattle.template_core.proofs.Parts.{each_a, each_alternating_earlier};
+    ghost use Rattle.templates_pair.specs.AlternatePrecedence.{next_after, accepts, kept};
+
+    ghost ARITY = { 2 };
+
+    const ARITY: u8 = 2;
+
+    ghost in_use = { Unit {0} };
+
+    ghost kind = { the_kind };
+
+    ghost state_count = { 3 };
+
+    ghost start_state = { 0 };
+
+    ghost next_state = { next_after };
+
+    ghost is_accepting = { accepts };
+
+    ghost activations_by = { λ counts. counts.second.occurrences };
+
+    ghost fulfilled_by = { λ counts. counts.second.occurrences - counts.back.no_earlier - counts.back.rep_earlier };
+
+    ghost arity_told = { λ used. refl };
+
+    ghost accepts_kept = { λ used. kept };
+
+    ghost counts_activated = { λ used a b log differ. each_a nat_eq b log };
+
+    ghost counts_fulfilled = { λ used a b log differ. each_alternating_earlier nat_eq a b log };
+
+    fn number() -> u8 {
+        13
+    }
+
+    fn states() -> u8 {
+        3
+    }
+
+    fn start() -> u8 {
+        0
+    }
+
+    fn step(state: u8, class: Class) -> u8 {
+        match class {
+            Class::First => if state == 2 { 2 } else { 1 },
+            Class::Second => if state == 1 { 0 } else { 2 },
+            Class::Other => state,
+        }
+    }
+
+    fn accepting(state: u8) -> bool {
+        state != 2
+    }
+
+    fn activations(counts: &Counts) -> u64 {
+        counts.second.occurrences
+    }
+
+    fn fulfilled(counts: &Counts) -> u64 {
+        counts.second.occurrences - counts.back.no_earlier - counts.back.rep_earlier
+    }
+}

@@ -1,0 +1,73 @@
+use template_core::{Class, Counts, Template};
+
+/// Each a is followed by a b.
+pub struct Response;
+
+impl Template for Response {
+    ghost use Rattle.std.proofs.Common.{refl};
+    ghost use Rattle.std.specs.Prelude.{nat_eq, ◌-◌};
+    ghost use Rattle.template_core.specs.declared.kind.Kind.TheVariants.{Response as the_kind};
+    ghost use Rattle.template_core.specs.Tests.{has_later};
+    ghost use Rattle.template_core.proofs.Parts.{each_a, each_not_failing};
+    ghost use Rattle.templates_pair.specs.Response.{next_after, accepts, kept};
+
+    ghost ARITY = { 2 };
+
+    const ARITY: u8 = 2;
+
+    ghost in_use = { Unit {0} };
+
+    ghost kind = { the_kind };
+
+    ghost state_count = { 2 };
+
+    ghost start_state = { 0 };
+
+    ghost next_state = { next_after };
+
+    ghost is_accepting = { accepts };
+
+    ghost activations_by = { λ counts. counts.first.occurrences };
+
+    ghost fulfilled_by = { λ counts. counts.first.occurrences - counts.onward.no_later };
+
+    ghost arity_told = { λ used. refl };
+
+    ghost accepts_kept = { λ used. kept };
+
+    ghost counts_activated = { λ used a b log differ. each_a nat_eq a log };
+
+    ghost counts_fulfilled = { λ used a b log differ. each_not_failing nat_eq a (has_later nat_eq b) log };
+
+    fn number() -> u8 {
+        11
+    }
+
+    fn states() -> u8 {
+        2
+    }
+
+    fn start() -> u8 {
+        0
+    }
+
+    fn step(state: u8, class: Class) -> u8 {
+        match class {
+            Class::First => 1,
+            Class::Second => 0,
+            Class::Other => state,
+        }
+    }
+
+    fn accepting(state: u8) -> bool {
+        state == 0
+    }
+
+    fn activations(counts: &Counts) -> u64 {
+        counts.first.occurrences
+    }
+
+    fn fulfilled(counts: &Counts) -> u64 {
+        counts.first.occurrences - counts.onward.no_later
+    }
+}

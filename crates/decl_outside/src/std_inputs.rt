@@ -1,0 +1,109 @@
+ghost use Rattle.std.specs.Prelude.{◌≡◌, None, true, false};
+ghost use Rattle.std.specs.Io.{ReadsAtMost};
+ghost use Rattle.decl_outside.specs.Inputs.{InputState};
+
+use crate::{Failed, Inputs};
+use decl_base::Name;
+use std::io::Read;
+use std::rt::Files;
+use std::{fs, io};
+
+/// Files, and standard input. Nothing is told of their bytes.
+#[derive(Drop)]
+pub struct StdInputs<R: Files + Input + Drop> {
+    rt: R,
+    file: Option<R::File>,
+    standard: Option<R::Reader>,
+    asked: Option<Name>,
+    has_failed: bool,
+    is_open: bool,
+    faults: u64,
+}
+
+impl<R: Files + Input + Drop> StdInputs<R> {
+    /// Nothing is open, and no name was asked for.
+    pub fn new(rt: R) -> StdInputs<R>
+        ensures { ⟦<StdInputs<R> as Inputs>⟧.state result ≡ record {
+          faults = 0;
+          asked = None;
+          has_failed = false;
+          is_open = false;
+          contents = None;
+          left = None;
+        } }
+    {
+        StdInputs {
+            rt,
+            file: None,
+            standard: None,
+            asked: None,
+            has_failed: false,
+            is_open: false,
+            faults: 0,
+        }
+    }
+}
+
+impl<R: Files + Input + Drop> Inputs for StdInputs<R> {
+    ghost state = { λ s. record {
+      faults = s.faults;
+      asked = s.asked;
+      has_failed = s.has_failed;
+      is_open = s.is_open;
+      contents = None;
+      left = None;
+    } };
+
+    fn open(&mut self, name: Name) -> Result<(), Failed> {
+        self.file = None;
+        self.standard = None;
+        if name.text() == "-" {
+            self.standard = Some(self.rt.reader());
+            self.has_failed = false;
+        } else {
+            match fs::open(&self.rt, name.text()) {
+                Ok(file) => {
+                    self.file = Some(file);
+                    self.has_failed = false;
+                }
+                Err(_) => {
+                    self.has_failed = true;
+                }
+            }
+        }
+        self.asked = Some(name);
+        self.is_open = !self.has_failed;
+        if self.has_failed {
+            self.faults = self.faults.saturating_add(1);
+            return Err(Failed);
+        }
+        Ok(())
+    }
+
+    fn read(&mut self, buffer: &mut [u8]) -> Result<usize, Failed> {
+        match read_current(&mut self.file, &mut self.standard, buffer) {
+            Ok(count) => Ok(count),
+            Err(_) => {
+                self.has_failed = true;
+                self.faults = self.faults.saturating_add(1);
+                Err(Failed)
+            }
+        }
+    }
+}
+
+fn read_current<F: Read, S: Read>(
+    file: &mut Option<F>,
+    standard: &mut Option<S>,
+    buffer: &mut [u8],
+) -> io::Result<usize>
+    ensures { ReadsAtMost result buffer.new }
+{
+    if let Some(file) = file {
+        return file.read(buffer);
+    }
+    if let Some(standard) = standard {
+        return standard.read(buffer);
+    }
+    Ok(0)
+}

@@ -1,0 +1,9 @@
+pub mod Writes
+pub mod Follows
+pub mod Cells
+pub mod Present
+pub mod Bounds
+pub mod Events
+pub mod Starts
+pub mod Ends
+pub mod Numbers

@@ -1,0 +1,2 @@
+//! The scores of the constraints over a log, and the candidates in the order of priority.
+#![tactic(auto)]

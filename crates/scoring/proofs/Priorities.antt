@@ -13,7 +13,7 @@ use Rattle.template_core.specs.Constraints.{number_of}
 use Rattle.template_core.specs.declared.constraint.Constraint.{Constraint}
 use Rattle.template_core.specs.declared.kind.Kind.{Kind}
 use Rattle.template_core.specs.declared.kind.Kind.TheVariants.{Init, End, Participation, AtMostOne, ChainSuccession, AlternateSuccession, Succession, CoExistence, ChainResponse, AlternateResponse, Response, ChainPrecedence, AlternatePrecedence, Precedence, RespondedExistence, NotCoExistence, NotSuccession, NotChainSuccession}
-use Rattle.scoring.specs.Candidates.{kinds}
+use Rattle.template_set.specs.Names.{all_kinds}
 use Rattle.scoring.specs.Priority.{constraint_cmp, priority_cmp, insert_in_order, in_order}
 use Rattle.scoring.specs.Scores.{scored}
 use Rattle.scoring.specs.declared.scored.Scored.{Scored}
@@ -118,7 +118,7 @@ sound_priority-agrees s t p q =
     (ap₂ ordering_then (sound-agrees t.interest s.interest q.interest p.interest) refl))
 
 -- a template is the one of its number
-kind-at : (kind : Kind) → get_or kinds (number_of kind - 1) Init ≡ kind
+kind-at : (kind : Kind) → get_or all_kinds (number_of kind - 1) Init ≡ kind
 kind-at Init = refl
 kind-at End = refl
 kind-at Participation = refl
@@ -139,7 +139,7 @@ kind-at NotSuccession = refl
 kind-at NotChainSuccession = refl
 
 pub same_kind : (k l : Kind) → number_of k ≡ number_of l → k ≡ l
-same_kind k l e = sym (kind-at k) ∙ ap (λ n. get_or kinds (n - 1) Init) e ∙ kind-at l
+same_kind k l e = sym (kind-at k) ∙ ap (λ n. get_or all_kinds (n - 1) Init) e ∙ kind-at l
 
 both_equal : (r s : Ordering) → ordering_then r s ≡ Equal → (r ≡ Equal) × (s ≡ Equal)
 both_equal Less s e = absurd (cc)

@@ -8,16 +8,10 @@ use Rattle.decl_base.specs.declared.threshold.Thresholds.{Thresholds}
 use Rattle.template_core.specs.declared.constraint.Constraint.{Constraint}
 use Rattle.template_core.specs.declared.kind.Kind.{Kind}
 use Rattle.template_core.specs.declared.kind.Kind.TheVariants.{Init, End, Participation, AtMostOne, ChainSuccession, AlternateSuccession, Succession, CoExistence, ChainResponse, AlternateResponse, Response, ChainPrecedence, AlternatePrecedence, Precedence, RespondedExistence, NotCoExistence, NotSuccession, NotChainSuccession}
+use Rattle.template_set.specs.Names.{all_kinds}
 use Rattle.scoring.specs.Priority.{priority_cmp, in_order}
 use Rattle.scoring.specs.Scores.{scored}
 use Rattle.scoring.specs.declared.scored.Scored.{Scored}
-
--- the templates by their numbers
-abbrev pub kinds : List Kind
-kinds =
-    Init ∷ End ∷ Participation ∷ AtMostOne ∷ ChainSuccession ∷ AlternateSuccession ∷ Succession ∷ CoExistence ∷ ChainResponse
-    ∷ AlternateResponse ∷ Response ∷ ChainPrecedence ∷ AlternatePrecedence ∷ Precedence ∷ RespondedExistence ∷ NotCoExistence
-    ∷ NotSuccession ∷ NotChainSuccession ∷ []
 
 -- which two ranks a template takes: one activity stands twice; two differ, and where their order says nothing the smaller is first
 abbrev pub takes : Kind → ℕ → ℕ → Bool
@@ -40,7 +34,7 @@ unfoldable pub constraints_of : ℕ → Kind → List Constraint
 constraints_of n kind = flat_map (constraints_from n kind) (range_with_len 0 n)
 
 unfoldable pub constraints_over : ℕ → List Constraint
-constraints_over n = flat_map (constraints_of n) kinds
+constraints_over n = flat_map (constraints_of n) all_kinds
 
 -- a score reaches a threshold
 abbrev pub reaches : Threshold → Fraction → Bool

@@ -1,0 +1,3 @@
+pub mod Scores
+pub mod Candidates
+pub mod Priority

@@ -1,10 +1,10 @@
 -- A table that is filled row by row, and the run through it.
-use Rattle.std.proofs.Common.{◌≡◌, ◌≢◌, ◌↔◌, ◌⊎◌, ℕ, suc, ◌+◌, ◌<◌, ◌≤◌, List, [], ◌∷◌, Bool, false, IsTrue, length, slice_set, slice_index_or, nat_eq, refl, sym, ap, subst, ◌∙◌, arith, ⊎_elim}
+use Rattle.std.proofs.Common.{◌≡◌, ◌≢◌, ◌↔◌, ◌⊎◌, ℕ, suc, ◌<◌, ◌≤◌, List, [], ◌∷◌, Bool, false, IsTrue, length, slice_set, slice_index_or, nat_eq, refl, sym, ap, subst, ◌∙◌, arith, ⊎_elim}
 use Rattle.std.proofs.lemmas.List.{get_or-set_same, get_or-set_other}
-use Rattle.template_core.specs.Automaton.{run, class_of}
+use Rattle.template_core.specs.Automaton.{run}
 use Rattle.template_core.specs.Constraints.{IsWellMade}
 use Rattle.template_core.specs.Repertoire.{Keeps}
-use Rattle.template_core.specs.Tables.{column, class, step, accepts_at, table_run, keeps_by, IsTable}
+use Rattle.template_core.specs.Tables.{column, class, step, table_run, keeps_by, IsTable}
 use Rattle.template_core.specs.declared.class.Class.{Class}
 use Rattle.template_core.specs.declared.class.Class.TheVariants.{First, Second, Other}
 use Rattle.template_core.specs.declared.constraint.Constraint.{Constraint}
@@ -32,14 +32,14 @@ pub one_more : (next_state : ℕ → Class → ℕ) (is_accepting : ℕ → Bool
     → IsFilled next_state is_accepting states (suc k) (slice_set next k (x ∷ y ∷ z ∷ [])) (slice_set accepting k v)
 one_more next_state is_accepting states k next accepting x y z v filled in_next in_accepting ex ey ez bx by bz ev = record {
   rows = λ s class h. ⊎_elim
-    (λ lt. ap (λ row. slice_index_or row (column class) 0) (get_or-set_other next k s (x ∷ y ∷ z ∷ []) [] (apart s k lt)) ∙ filled.rows s class lt)
-    (λ same. here s class same)
-    (split s k h);
+      (λ lt. ap (λ row. slice_index_or row (column class) 0) (get_or-set_other next k s (x ∷ y ∷ z ∷ []) [] (apart s k lt)) ∙ filled.rows s class lt)
+      (λ same. here s class same)
+      (split s k h);
   below = λ s class h. ⊎_elim (λ lt. filled.below s class lt) (λ same. bound s class same) (split s k h);
   marks = λ s h. ⊎_elim
-    (λ lt. get_or-set_other accepting k s v false (apart s k lt) ∙ filled.marks s lt)
-    (λ same. ap (λ n. slice_index_or (slice_set accepting k v) n false) same ∙ get_or-set_same accepting k v false in_accepting ∙ ev ∙ ap is_accepting (sym same))
-    (split s k h);
+      (λ lt. get_or-set_other accepting k s v false (apart s k lt) ∙ filled.marks s lt)
+      (λ same. ap (λ n. slice_index_or (slice_set accepting k v) n false) same ∙ get_or-set_same accepting k v false in_accepting ∙ ev ∙ ap is_accepting (sym same))
+      (split s k h);
 }
   where
     split : (s k : ℕ) → s < suc k → (s < k) ⊎ (s ≡ k)
@@ -89,8 +89,8 @@ module _ (states start : ℕ) (next_state : ℕ → Class → ℕ) (is_accepting
     few_states = omega (arith, by.states_are);
     start_bound = omega (arith, by.states_are, by.start_is, by.start_below);
     step_bound = λ state class h.
-      let lt : state < states = omega (arith, by.states_are) in
-      omega (arith, by.states_are, by.next_is state class lt, by.closed state class lt);
+        let lt : state < states = omega (arith, by.states_are) in
+        omega (arith, by.states_are, by.next_is state class lt, by.closed state class lt);
   }
 
   -- the run through the table is the automaton's

@@ -83,13 +83,11 @@ fn traces_of(kind: Kind, counts: &Counts) -> Traces
             traces: counts.traces,
             target: first,
         },
-        Kind::ChainResponse
-        | Kind::AlternateResponse
-        | Kind::Response
-        | Kind::RespondedExistence => Traces {
-            traces: first,
-            target: second,
-        },
+        Kind::ChainResponse | Kind::AlternateResponse | Kind::Response | Kind::RespondedExistence =>
+            Traces {
+                traces: first,
+                target: second,
+            },
         Kind::ChainPrecedence | Kind::AlternatePrecedence | Kind::Precedence => Traces {
             traces: second,
             target: first,

@@ -1,12 +1,15 @@
 -- Counters of one log bound each other, so a template's sums and differences fit.
-use Rattle.std.proofs.Common.{ℕ, zero, suc, ◌+◌, ◌≤◌, List, length, sum_by, nat_eq, sym, subst, arith}
+use Rattle.std.proofs.Common.{ℕ, ◌+◌, ◌≤◌, List, ◌&&◌, length, sum_by, count_by, nat_eq, sym, subst, arith}
 use Rattle.std.proofs.lemmas.List.Sums.{count_by-le-length, sum_by-le-sum_by}
-use Rattle.template_core.specs.Events.{one_if, count_places}
+use Rattle.template_core.specs.Events.{occurs}
 use Rattle.template_core.specs.Tests.{failing, has, has_next, has_previous}
 use Rattle.template_core.specs.Repertoire.{alternates_later, alternates_earlier}
 use Rattle.template_core.specs.Counters.{occurrences, no_later, no_earlier, rep_later, rep_earlier}
+use Rattle.template_core.proofs.Gains.{occurrences-le-length}
 use Rattle.template_core.proofs.Laws.{sum_by-plus}
 use Rattle.template_core.proofs.Parts.{sum_failing-le, sum_passing-le, failing-alternates_later, failing-alternates_earlier}
+use Rattle.template_core.proofs.Counters.{and_first}
+use Rattle.template_core.proofs.Traces.{count_by-le}
 use Rattle.template_core.specs.Counts.{AreCounts, unary_counts, pair_counts, pair_of, no_pair}
 use Rattle.template_core.specs.declared.kind.Kind.{Kind}
 use Rattle.template_core.specs.declared.kind.Kind.TheVariants.{Init, End, Participation, AtMostOne, ChainSuccession, AlternateSuccession, Succession, CoExistence, ChainResponse, AlternateResponse, Response, ChainPrecedence, AlternatePrecedence, Precedence, RespondedExistence, NotCoExistence, NotSuccession, NotChainSuccession}
@@ -20,26 +23,23 @@ pub record PairBounds (first : UnaryCounts) (pair : PairCounts) : Type 0 where
   pub earlier : pair.no_earlier + pair.rep_earlier ≤ first.occurrences
   pub next : pair.next ≤ first.occurrences
   pub previous : pair.previous ≤ first.occurrences
+  pub together : pair.together ≤ first.traces
   pub small : first.occurrences ≤ 16777215
+  pub few : first.traces ≤ 1048575
 
 pub record Bounds (counts : Counts) : Type 0 where
   pub onward : PairBounds counts.first counts.onward
   pub back : PairBounds counts.second counts.back
   pub repeated : counts.first.repeated ≤ counts.traces
 
-count_places-le : (p : ℕ → _) (n : ℕ) → count_places p n ≤ n
-unfolding count_places
-count_places-le p zero = omega arith
-count_places-le p (suc n) = omega (arith, count_places-le p n, one (p n))
-  where
-    one : (v : _) → one_if v ≤ 1
-    one v = grind arith
-
 few_occurrences : (a : ℕ) (log : List (List ℕ)) → sum_by (λ trace. length trace) log ≤ 16777215 → sum_by (occurrences nat_eq a) log ≤ 16777215
-few_occurrences a log h = omega (arith, h, sum_by-le-sum_by (occurrences nat_eq a) (λ trace. length trace) log (λ t. count_places-le _ (length t)))
+few_occurrences a log h = omega (arith, h, sum_by-le-sum_by (occurrences nat_eq a) (λ trace. length trace) log (λ t. occurrences-le-length nat_eq a t))
 
-pair_bounds : (a b : ℕ) (log : List (List ℕ)) → sum_by (λ trace. length trace) log ≤ 16777215 → PairBounds (unary_counts a log) (pair_counts a b log)
-pair_bounds a b log h = record {
+few_traces : (a : ℕ) (log : List (List ℕ)) → length log ≤ 1048575 → count_by (occurs nat_eq a) log ≤ 1048575
+few_traces a log g = omega (arith, count_by-le-length (occurs nat_eq a) log, g)
+
+pair_bounds : (a b : ℕ) (log : List (List ℕ)) → sum_by (λ trace. length trace) log ≤ 16777215 → length log ≤ 1048575 → PairBounds (unary_counts a log) (pair_counts a b log)
+pair_bounds a b log h g = record {
   without = sum_failing-le nat_eq a (has nat_eq b) log;
   later =
       omega (
@@ -55,38 +55,42 @@ pair_bounds a b log h = record {
       );
   next = sum_passing-le nat_eq a (has_next nat_eq b) log;
   previous = sum_passing-le nat_eq a (has_previous nat_eq b) log;
+  together = count_by-le (λ trace. occurs nat_eq a trace && occurs nat_eq b trace) (occurs nat_eq a) (λ t e. and_first (occurs nat_eq a t) (occurs nat_eq b t) e) log;
   small = few_occurrences a log h;
+  few = few_traces a log g;
 }
 
-no_bounds : (a : ℕ) (log : List (List ℕ)) → sum_by (λ trace. length trace) log ≤ 16777215 → PairBounds (unary_counts a log) no_pair
-no_bounds a log h = record {
+no_bounds : (a : ℕ) (log : List (List ℕ)) → sum_by (λ trace. length trace) log ≤ 16777215 → length log ≤ 1048575 → PairBounds (unary_counts a log) no_pair
+no_bounds a log h g = record {
   without = omega arith;
   later = omega arith;
   earlier = omega arith;
   next = omega arith;
   previous = omega arith;
+  together = omega arith;
   small = few_occurrences a log h;
+  few = few_traces a log g;
 }
 
-either_bounds : (kind : Kind) (a b : ℕ) (log : List (List ℕ)) → sum_by (λ trace. length trace) log ≤ 16777215 → PairBounds (unary_counts a log) (pair_of kind a b log)
-either_bounds Init a b log h = no_bounds a log h
-either_bounds End a b log h = no_bounds a log h
-either_bounds Participation a b log h = no_bounds a log h
-either_bounds AtMostOne a b log h = no_bounds a log h
-either_bounds ChainSuccession a b log h = pair_bounds a b log h
-either_bounds AlternateSuccession a b log h = pair_bounds a b log h
-either_bounds Succession a b log h = pair_bounds a b log h
-either_bounds CoExistence a b log h = pair_bounds a b log h
-either_bounds ChainResponse a b log h = pair_bounds a b log h
-either_bounds AlternateResponse a b log h = pair_bounds a b log h
-either_bounds Response a b log h = pair_bounds a b log h
-either_bounds ChainPrecedence a b log h = pair_bounds a b log h
-either_bounds AlternatePrecedence a b log h = pair_bounds a b log h
-either_bounds Precedence a b log h = pair_bounds a b log h
-either_bounds RespondedExistence a b log h = pair_bounds a b log h
-either_bounds NotCoExistence a b log h = pair_bounds a b log h
-either_bounds NotSuccession a b log h = pair_bounds a b log h
-either_bounds NotChainSuccession a b log h = pair_bounds a b log h
+either_bounds : (kind : Kind) (a b : ℕ) (log : List (List ℕ)) → sum_by (λ trace. length trace) log ≤ 16777215 → length log ≤ 1048575 → PairBounds (unary_counts a log) (pair_of kind a b log)
+either_bounds Init a b log h g = no_bounds a log h g
+either_bounds End a b log h g = no_bounds a log h g
+either_bounds Participation a b log h g = no_bounds a log h g
+either_bounds AtMostOne a b log h g = no_bounds a log h g
+either_bounds ChainSuccession a b log h g = pair_bounds a b log h g
+either_bounds AlternateSuccession a b log h g = pair_bounds a b log h g
+either_bounds Succession a b log h g = pair_bounds a b log h g
+either_bounds CoExistence a b log h g = pair_bounds a b log h g
+either_bounds ChainResponse a b log h g = pair_bounds a b log h g
+either_bounds AlternateResponse a b log h g = pair_bounds a b log h g
+either_bounds Response a b log h g = pair_bounds a b log h g
+either_bounds ChainPrecedence a b log h g = pair_bounds a b log h g
+either_bounds AlternatePrecedence a b log h g = pair_bounds a b log h g
+either_bounds Precedence a b log h g = pair_bounds a b log h g
+either_bounds RespondedExistence a b log h g = pair_bounds a b log h g
+either_bounds NotCoExistence a b log h g = pair_bounds a b log h g
+either_bounds NotSuccession a b log h g = pair_bounds a b log h g
+either_bounds NotChainSuccession a b log h g = pair_bounds a b log h g
 
 repeated-le : (a : ℕ) (log : List (List ℕ)) → (unary_counts a log).repeated ≤ length log
 repeated-le a log = count_by-le-length _ log
@@ -94,7 +98,7 @@ repeated-le a log = count_by-le-length _ log
 pub bounds_of : (kind : Kind) (counts : Counts) → AreCounts kind counts → Bounds counts
 bounds_of kind counts h =
     subst Bounds (sym h.are) (record {
-      onward = either_bounds kind h.a h.b h.log h.few_events;
-      back = either_bounds kind h.b h.a h.log h.few_events;
+      onward = either_bounds kind h.a h.b h.log h.few_events h.few_traces;
+      back = either_bounds kind h.b h.a h.log h.few_events h.few_traces;
       repeated = repeated-le h.a h.log;
     })

@@ -7,4 +7,6 @@ pub mod Pairs
 pub mod Parts
 pub mod Places
 pub mod Runs
+pub mod Sizes
+pub mod Traces
 pub mod Wholes

@@ -1,0 +1,4 @@
+pub mod Filling
+pub mod Groups
+pub mod Least
+pub mod EachKind

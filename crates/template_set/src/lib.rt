@@ -1,0 +1,11 @@
+//! The eighteen templates by their kind: tables, numbers, names.
+#![tactic(auto)]
+
+mod dispatch;
+mod names;
+mod numbers;
+mod tables;
+
+pub use names::{kind_of, kinds, name};
+pub use numbers::{Numbers, arity, counts_of};
+pub use tables::table_of;

@@ -1,0 +1,57 @@
+-- Complete automata, and the traces that they accept.
+use Rattle.std.specs.Prelude.{◌≡◌, ℕ, ◌*◌, ◌+◌, ◌<◌, ◌^◌, List, [], ◌∷◌, length, Bool, true, false, slice_index_or as get_or}
+use Rattle.dfa_core.specs.Shortlex.{IsBefore, IsAtMost}
+use Rattle.dfa_core.specs.Traces.{IsTrace}
+
+-- a table of states, row after row, with one entry for each symbol
+pub record Automaton : Type 0 where
+  pub symbols : ℕ
+  pub start : ℕ
+  pub next : List ℕ
+  pub accepting : List Bool
+
+abbrev pub automaton : ℕ → ℕ → List ℕ → List Bool → Automaton
+automaton symbols start next accepting = record { symbols = symbols; start = start; next = next; accepting = accepting }
+
+abbrev pub state_count : Automaton → ℕ
+state_count a = length a.accepting
+
+unfoldable pub step : Automaton → ℕ → ℕ → ℕ
+step a q x = get_or a.next (q * a.symbols + x) 0
+
+abbrev pub is_accepting : Automaton → ℕ → Bool
+is_accepting a q = get_or a.accepting q false
+
+-- the state after a trace
+abbrev pub run : Automaton → ℕ → List ℕ → ℕ
+run a q [] = q
+run a q (x ∷ w) = run a (step a q x) w
+
+abbrev pub accepts : Automaton → List ℕ → Bool
+accepts a w = is_accepting a (run a a.start w)
+
+-- the start and each entry of the table is a state
+pub record IsWhole (a : Automaton) : Type 0 where
+  pub start_bound : a.start < state_count a
+  pub few_states : state_count a < 2 ^ 32
+  pub table_length : length a.next ≡ state_count a * a.symbols
+  pub step_bound : (q x : ℕ) → q < state_count a → x < a.symbols → step a q x < state_count a
+
+-- one state, and every trace is accepted
+pub record IsEverything (symbols : ℕ) (a : Automaton) : Type 0 where
+  pub over : a.symbols ≡ symbols
+  pub one_state : state_count a ≡ 1
+  pub accepts_all : (w : List ℕ) → IsTrace symbols w → accepts a w ≡ true
+
+-- the same traces over the same symbols
+pub record SameLanguage (a b : Automaton) : Type 0 where
+  pub over : a.symbols ≡ b.symbols
+  pub same : (w : List ℕ) → IsTrace a.symbols w → accepts a w ≡ accepts b w
+
+-- Each state is reached. Of the traces that lead to it, one is the least, and the least traces of the states are in the order of the states' numbers.
+pub record IsBreadthFirst (a : Automaton) : Type 0 where
+  pub to : ℕ → List ℕ
+  pub over : (q : ℕ) → q < state_count a → IsTrace a.symbols (to q)
+  pub reached : (q : ℕ) → q < state_count a → run a a.start (to q) ≡ q
+  pub least : (w : List ℕ) → IsTrace a.symbols w → IsAtMost (to (run a a.start w)) w
+  pub in_order : (q r : ℕ) → q < r → r < state_count a → IsBefore (to q) (to r)

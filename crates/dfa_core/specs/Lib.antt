@@ -1,0 +1,4 @@
+pub mod Traces
+pub mod Shortlex
+pub mod Automaton
+pub mod Graph

@@ -1,0 +1,116 @@
+-- One class of all states, and a class's states in a list.
+use Rattle.std.proofs.Common.{◌≡◌, inl, inr, ℕ, zero, suc, ◌+◌, ◌-◌, ◌<◌, ◌≤◌, ◌^◌, List, [], ◌∷◌, ◌++◌, Bool, true, false, ◌||◌, eqb, length, get_or, take, drop, refl, sym, ap, ◌∙◌, arith, length-take-le, length-drop, eq-eqb}
+use Rattle.std.proofs.lemmas.Bool.{cases_eq}
+use Rattle.std.proofs.lemmas.List.{get_or-take, get_or-drop, get_or-map, length-map, length_push}
+use Rattle.dfa_core.proofs.Finding.{pushed}
+use Rattle.dfa_minimise.specs.Partitions.{IsPartition, IsTidy, IsCounting, is_in, members_of}
+use Rattle.dfa_minimise.specs.Classes.{AreInClass}
+use Rattle.dfa_minimise.specs.declared.refinable.Refinable.{Refinable}
+use Rattle.dfa_minimise.proofs.Splitting.{is_in-place}
+use Rattle.dfa_minimise.proofs.Marking.{eqb_not}
+
+pub counting-more : (n : ℕ) (xs ys : List ℕ) → IsCounting n xs → ys ≡ xs ++ n ∷ [] → IsCounting (n + 1) ys
+counting-more n xs ys h e = rw e (record {
+  counted = length_push xs n ∙ ap (λ (k : ℕ). k + 1) h.counted;
+  each = λ i l. elim (pushed xs n 0 i n h.counted (omega arith)) [ inl p ↦ p.1 ∙ h.each i p.0 | inr p ↦ p.1 ∙ sym p.0 ];
+})
+
+pub tidy-whole : (n : ℕ) (p : Refinable) → 0 < n → n < 2 ^ 32 → IsCounting n p.order.items → IsCounting n p.place.items → length p.class.items ≡ n → ((q : ℕ) → get_or p.class.items q 0 ≡ 0)
+    → p.first.items ≡ zero ∷ [] → p.end.items ≡ n ∷ [] → p.marked.items ≡ zero ∷ [] → IsTidy p
+tidy-whole n p pos few o l ec z ef ee em =
+    let at : (q : ℕ) → q < length p.class.items → q < n = λ q lq. omega (arith, ec, lq) in
+    let only : (c : ℕ) → c < length p.first.items → c ≡ 0 = λ c lc. let k = ap length ef in omega arith in
+    let f0 : get_or p.first.items 0 0 ≡ 0 = ap (λ (xs : List ℕ). get_or xs 0 0) ef in
+    let e0 : get_or p.end.items 0 0 ≡ n = ap (λ (xs : List ℕ). get_or xs 0 0) ee in
+    let m0 : (c : ℕ) → get_or p.marked.items c 0 ≡ 0 = λ c. ap (λ (xs : List ℕ). get_or xs c 0) em ∙ zero_at c in
+    let lf = ap length ef in
+    let le = ap length ee in
+    let lm = ap length em in
+    record {
+      refinable = record {
+        order_length = o.counted ∙ sym ec;
+        place_length = l.counted ∙ sym ec;
+        class_length = refl;
+        end_length = le ∙ sym lf;
+        place_bound = λ q lq. rw (l.each q (at q lq)) lq;
+        order_bound = λ i li. rw (o.each i (at i li)) li;
+        order_place = λ q lq. rw (l.each q (at q lq)) (o.each q (at q lq));
+        place_order = λ i li. rw (o.each i (at i li)) (l.each i (at i li));
+        class_bound = λ q lq. rw (z q) (omega arith);
+        class_first = λ q lq. rw (z q, f0) (omega arith);
+        class_end = λ q lq. let a = at q lq in rw (z q, e0, l.each q a) a;
+        some = λ c lc. rw (only c lc, f0, e0) pos;
+        end_bound = λ c lc. rw (only c lc, e0) (omega arith);
+        class_order = λ c i lc lo hi. z (get_or p.order.items i 0) ∙ sym (only c lc);
+      };
+      fit = record {
+        marks_length = lm ∙ sym lf;
+        marks_bound = λ c lc. rw (only c lc, f0, e0, m0 0) (omega arith);
+      };
+      no_marks = record { none = m0 };
+      few = omega arith;
+    }
+  where
+    zero_at : (c : ℕ) → get_or (zero ∷ []) c 0 ≡ 0
+    zero_at zero = refl
+    zero_at (suc c) = refl
+
+is_in-from_place : (xs : List ℕ) (q j : ℕ) → j < length xs → get_or xs j 0 ≡ q → is_in xs q ≡ true
+is_in-from_place [] q j l e = absurd (omega arith)
+is_in-from_place (y ∷ xs) q zero l e = rw (eq-eqb y q e) refl
+is_in-from_place (y ∷ xs) q (suc j) l e = go (eqb y q) (is_in-from_place xs q j (omega arith) e)
+  where
+    go : (b : Bool) → is_in xs q ≡ true → (b || is_in xs q) ≡ true
+    go true h = refl
+    go false h = h
+
+bool_not-true : (b : Bool) → (b ≡ true → ⊥) → b ≡ false
+bool_not-true true h = absurd (h refl)
+bool_not-true false h = refl
+
+pub class-states : (p : Refinable) (c : ℕ) (states : List ℕ) → IsTidy p → c < length p.first.items → states ≡ take (get_or p.end.items c 0 - get_or p.first.items c 0) (drop (get_or p.first.items c 0) p.order.items)
+    → AreInClass (length p.class.items) c p.class.items states
+class-states p c states t lc es =
+    let h = t.refinable in
+    let f = get_or p.first.items c 0 in
+    let e = get_or p.end.items c 0 in
+    let n = length p.class.items in
+    let s = h.some c lc in
+    let b = h.end_bound c lc in
+    let len : length states ≡ e - f = ap length es ∙ length-take-le (e - f) (drop f p.order.items) (omega (arith, length-drop f p.order.items, h.order_length)) in
+    let each : (j : ℕ) → j < length states → get_or states j 0 ≡ get_or p.order.items (f + j) 0 = λ j l. ap (λ (xs : List ℕ). get_or xs j 0) es ∙ (get_or-take (e - f) (drop f p.order.items) j 0 (omega arith) ∙ get_or-drop f p.order.items j 0) in
+    record {
+      bound = λ j l. rw (each j l) (h.order_bound (f + j) (omega arith));
+      are = λ q lq. elim (cases_eq (get_or p.class.items q 0) c) [
+        | inl is ↦
+            let lo : f ≤ get_or p.place.items q 0 = rw is at (h.class_first q lq) in
+            let hi : get_or p.place.items q 0 < e = rw is at (h.class_end q lq) in
+            let j = get_or p.place.items q 0 - f in
+            let lj : j < length states = omega arith in
+            let same : f + j ≡ get_or p.place.items q 0 = omega arith in
+            is_in-from_place states q j lj (each j lj ∙ (ap (λ (i : ℕ). get_or p.order.items i 0) same ∙ h.order_place q lq)) ∙ sym (eq-eqb (get_or p.class.items q 0) c is)
+        | inr ne ↦
+            bool_not-true (is_in states q) (λ yes_.
+            let k = is_in-place states q yes_ in
+            ne (ap (λ (r : ℕ). get_or p.class.items r 0) (sym k.2 ∙ each k.0 k.1) ∙ h.class_order c (f + k.0) lc (omega arith) (let a = k.1 in omega arith)))
+            ∙ sym (eqb_not (get_or p.class.items q 0) c ne)
+      ];
+    }
+
+pub partition-tidy : (p : Refinable) → IsTidy p → IsPartition (length p.class.items) p.class.items (members_of p)
+partition-tidy p t =
+    let h = t.refinable in
+    let len : length (members_of p) ≡ length p.first.items = length-map p.first.items (λ f. get_or p.order.items f 0) in
+    let at : (c : ℕ) → c < length p.first.items → get_or (members_of p) c 0 ≡ get_or p.order.items (get_or p.first.items c 0) 0 = λ c lc. get_or-map (λ f. get_or p.order.items f 0) p.first.items c 0 0 lc in
+    record {
+      states = refl;
+      class_bound = λ q lq. rw len (h.class_bound q lq);
+      member_bound = λ c lc.
+          let lc2 : c < length p.first.items = rw len at lc in
+          let s = h.some c lc2 in
+          let b = h.end_bound c lc2 in
+          rw (at c lc2) (h.order_bound (get_or p.first.items c 0) (omega arith));
+      member_class = λ c lc.
+          let lc2 : c < length p.first.items = rw len at lc in
+          rw (at c lc2) (h.class_order c (get_or p.first.items c 0) lc2 (omega arith) (h.some c lc2));
+    }

@@ -1,0 +1,8 @@
+use Rattle.dfa_minimise.specs.Partitions.{IsCounting}
+use Rattle.dfa_minimise.proofs.refinable.Refinable.whole.Given as goal
+
+abbrev pub invariant-loop-state : goal.invariant-loop-state
+invariant-loop-state l = record {
+  order : IsCounting l.state l.order.items;
+  place : IsCounting l.state l.place.items;
+}

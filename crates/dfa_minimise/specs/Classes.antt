@@ -1,0 +1,39 @@
+-- Which states belong together.
+use Rattle.std.specs.Prelude.{◌≡◌, ℕ, ◌<◌, ◌==◌, List, length, slice_index_or as get_or}
+use Rattle.dfa_core.specs.Automaton.{Automaton, IsTrace, IsWhole, is_accepting, run, state_count, step}
+use Rattle.dfa_minimise.specs.Partitions.{IsPartition, is_in}
+
+-- a continuation that is accepted from one state alone
+pub record AreToldApart (a : Automaton) (q r : ℕ) : Type 0 where
+  pub by : List ℕ
+  pub over : IsTrace a.symbols by
+  pub differs : is_accepting a (run a q by) ≡ is_accepting a (run a r by) → ⊥
+
+-- States of two classes are told apart, and states of one class accept alike.
+pub record IsSound (a : Automaton) (class : List ℕ) : Type 0 where
+  pub apart : (q r : ℕ) → q < state_count a → r < state_count a → (get_or class q 0 ≡ get_or class r 0 → ⊥) → AreToldApart a q r
+  pub alike : (q r : ℕ) → q < state_count a → r < state_count a → get_or class q 0 ≡ get_or class r 0 → is_accepting a q ≡ is_accepting a r
+
+-- where a symbol leads two states of one class into classes below a number, it leads them into one class
+pub record IsStableBelow (a : Automaton) (class : List ℕ) (count : ℕ) : Type 0 where
+  pub stable : (q r x : ℕ) → q < state_count a → r < state_count a → x < a.symbols → get_or class q 0 ≡ get_or class r 0
+      → get_or class (step a q x) 0 < count → get_or class (step a r x) 0 < count → get_or class (step a q x) 0 ≡ get_or class (step a r x) 0
+
+pub record IsEquivalence (a : Automaton) (class members : List ℕ) : Type 0 where
+  pub whole : IsWhole a
+  pub partition : IsPartition (state_count a) class members
+  pub sound : IsSound a class
+  pub stable : (q r x : ℕ) → q < state_count a → r < state_count a → x < a.symbols → get_or class q 0 ≡ get_or class r 0 → get_or class (step a q x) 0 ≡ get_or class (step a r x) 0
+
+-- a class of one moment, and states that a symbol leads into it
+pub record AreAccepting (a : Automaton) (states : List ℕ) : Type 0 where
+  pub bound : (k : ℕ) → k < length states → get_or states k 0 < state_count a
+  pub are : (q : ℕ) → q < state_count a → is_in states q ≡ is_accepting a q
+
+pub record LeadTo (a : Automaton) (x : ℕ) (targets states : List ℕ) : Type 0 where
+  pub bound : (k : ℕ) → k < length states → get_or states k 0 < state_count a
+  pub are : (q : ℕ) → q < state_count a → is_in states q ≡ is_in targets (step a q x)
+
+pub record AreInClass (n c : ℕ) (class states : List ℕ) : Type 0 where
+  pub bound : (k : ℕ) → k < length states → get_or states k 0 < n
+  pub are : (q : ℕ) → q < n → is_in states q ≡ (get_or class q 0 == c)

@@ -1,0 +1,61 @@
+ghost use Rattle.std.specs.Prelude.{◌≡◌, length, IfOk};
+ghost use Rattle.dfa_core.specs.Automaton.{IsBreadthFirst, SameLanguage, state_count};
+ghost use Rattle.dfa_minimise.specs.Least.{IsLeast};
+ghost use Rattle.dfa_minimise.specs.Partitions.{IsTidy};
+
+use crate::refinable::Refinable;
+use crate::worklist::equivalent_states;
+use dfa_core::{Dfa, System, reachable};
+use std::alloc::{AllocError, Global};
+
+/// The least automaton of the same language, with its states in breadth-first order.
+pub fn least(alloc: Global, dfa: &Dfa) -> Result<Dfa, AllocError>
+    ensures language { IfOk result (λ r. SameLanguage r dfa.now) }
+    ensures least { IfOk result IsLeast }
+    ensures order { IfOk result IsBreadthFirst }
+{
+    let partition = equivalent_states(alloc, dfa)?;
+    let quotient = Quotient {
+        dfa,
+        partition: &partition,
+    };
+    let least = reachable(alloc, &quotient)?;
+    Ok(least)
+}
+
+/// An automaton whose states are the classes of another's.
+#[derive(Drop)]
+struct Quotient<'a> {
+    dfa: &'a Dfa,
+    partition: &'a Refinable,
+    ghost tidy: { IsTidy partition.now },
+    ghost states: { length partition.now.class.items ≡ state_count dfa.now },
+}
+
+impl System for Quotient<'_> {
+    ghost use Rattle.dfa_minimise.specs.Least.{quotient};
+    ghost use Rattle.dfa_minimise.specs.Partitions.{members_of};
+
+    ghost graph = { λ q. quotient q.dfa.now q.partition.now.class.items (members_of q.partition.now) };
+
+    fn symbols(&self) -> u32 {
+        self.dfa.symbols()
+    }
+
+    fn nodes(&self) -> u32 {
+        self.partition.count()
+    }
+
+    fn first(&self) -> u32 {
+        self.partition.class_of(self.dfa.start())
+    }
+
+    fn next(&self, node: u32, symbol: u32) -> u32 {
+        let member = self.partition.member_of(node);
+        self.partition.class_of(self.dfa.step(member, symbol))
+    }
+
+    fn accepting(&self, node: u32) -> bool {
+        self.dfa.accepting(self.partition.member_of(node))
+    }
+}

@@ -1,0 +1,41 @@
+ghost use Rattle.std.specs.Prelude.{IfOk};
+ghost use Rattle.dfa_minimise.specs.Classes.{AreAccepting, IsEquivalence};
+ghost use Rattle.dfa_minimise.specs.Partitions.{IsTidy, members_of};
+
+use crate::refinable::Refinable;
+use crate::sources::Sources;
+use dfa_core::Dfa;
+use std::alloc::{AllocError, Global};
+
+/// The states in classes: two are in one class exactly where no continuation tells them apart.
+pub(crate) fn equivalent_states(alloc: Global, dfa: &Dfa) -> Result<Refinable, AllocError>
+    ensures tidy { IfOk result IsTidy }
+    ensures equivalence { IfOk result (λ p. IsEquivalence dfa.now p.class.items (members_of p)) }
+{
+    let sources = Sources::of(alloc, dfa)?;
+    let mut classes = Refinable::whole(alloc, dfa.states())?;
+    let accepting = accepting_states(alloc, dfa)?;
+    classes.split(&accepting)?;
+    let mut splitter = 0;
+    'splitters: while splitter < classes.count() {
+        let inside = classes.states_of(alloc, splitter)?;
+        'symbols: for symbol in 0..dfa.symbols() {
+            let touched = sources.leading_to(alloc, &inside, symbol)?;
+            classes.split(&touched)?;
+        }
+        splitter += 1;
+    }
+    Ok(classes)
+}
+
+fn accepting_states(alloc: Global, dfa: &Dfa) -> Result<Vec<u32>, AllocError>
+    ensures { IfOk result (λ states. AreAccepting dfa.now states.items) }
+{
+    let mut states = Vec::new(alloc);
+    for state in 0..dfa.states() {
+        if dfa.accepting(state) {
+            states.push(state)?;
+        }
+    }
+    Ok(states)
+}

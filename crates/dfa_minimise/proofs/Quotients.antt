@@ -1,6 +1,7 @@
 -- What the classes' automaton accepts, and that its states are told apart.
 use Rattle.std.proofs.Common.{◌≡◌, ℕ, ◌<◌, List, [], ◌∷◌, ◌++◌, get_or, refl, sym, ap, ◌∙◌, subst}
-use Rattle.dfa_core.specs.Automaton.{Automaton, IsTrace, IsWhole, SameLanguage, accepts, is_accepting, run, state_count, step}
+use Rattle.dfa_core.specs.Traces.{IsTrace}
+use Rattle.dfa_core.specs.Automaton.{Automaton, IsWhole, SameLanguage, accepts, is_accepting, run, state_count, step}
 use Rattle.dfa_core.specs.Graph.{Graph, walk, allows, IsReachable}
 use Rattle.dfa_core.proofs.Runs.{run-append, run-bound}
 use Rattle.dfa_minimise.specs.Classes.{IsEquivalence}

@@ -1,6 +1,7 @@
 -- Which states belong together.
 use Rattle.std.specs.Prelude.{◌≡◌, ℕ, ◌<◌, ◌==◌, List, length, slice_index_or as get_or}
-use Rattle.dfa_core.specs.Automaton.{Automaton, IsTrace, IsWhole, is_accepting, run, state_count, step}
+use Rattle.dfa_core.specs.Traces.{IsTrace}
+use Rattle.dfa_core.specs.Automaton.{Automaton, IsWhole, is_accepting, run, state_count, step}
 use Rattle.dfa_minimise.specs.Partitions.{IsPartition, is_in}
 
 -- a continuation that is accepted from one state alone

@@ -1,18 +1,20 @@
-ghost use Rattle.std.specs.Prelude.{◌≡◌, length, IfOk};
+ghost use Rattle.std.specs.Prelude.{◌≡◌, length, IfOk, IfErr};
 ghost use Rattle.dfa_core.specs.Automaton.{IsBreadthFirst, SameLanguage, state_count};
 ghost use Rattle.dfa_minimise.specs.Least.{IsLeast};
 ghost use Rattle.dfa_minimise.specs.Partitions.{IsTidy};
 
 use crate::refinable::Refinable;
 use crate::worklist::equivalent_states;
+use decl_base::Refusal;
 use dfa_core::{Dfa, System, reachable};
-use std::alloc::{AllocError, Global};
+use std::alloc::Global;
 
 /// The least automaton of the same language, with its states in breadth-first order.
-pub fn least(alloc: Global, dfa: &Dfa) -> Result<Dfa, AllocError>
+pub fn least(alloc: Global, dfa: &Dfa) -> Result<Dfa, Refusal>
     ensures language { IfOk result (λ r. SameLanguage r dfa.now) }
     ensures least { IfOk result IsLeast }
     ensures order { IfOk result IsBreadthFirst }
+    ensures err { IfErr result (λ e. e ≡ Refusal.Memory) }
 {
     let partition = equivalent_states(alloc, dfa)?;
     let quotient = Quotient {

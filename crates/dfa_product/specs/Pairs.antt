@@ -1,0 +1,24 @@
+-- Pairs of a state of an automaton and a state of a constraint's table.
+use Rattle.std.specs.Prelude.{◌≡◌, ℕ, ◌*◌, ◌+◌, ◌/◌, ◌%◌, ◌≤◌, List, Bool, ◌&&◌, not, if◌then◌else◌}
+use Rattle.dfa_core.specs.Traces.{IsTrace}
+use Rattle.dfa_core.specs.Automaton.{Automaton, accepts, is_accepting, state_count, step}
+use Rattle.dfa_core.specs.Graph.{Graph}
+use Rattle.template_core.specs.Tables.{accepts_at, class, keeps_by, step as table_step}
+use Rattle.template_core.specs.declared.constraint.Constraint.{Constraint}
+use Rattle.template_core.specs.declared.table.Table.{Table}
+
+-- A pair is one number. A walk may end where the automaton accepts and the table's answer is the one asked for.
+abbrev pub pairs : Automaton → Table → Constraint → Bool → Graph
+pairs a t c keeps = record {
+  symbols = a.symbols;
+  nodes = state_count a * t.states;
+  first = a.start * t.states + t.start;
+  next = λ node x. step a (node / t.states) x * t.states + table_step t (node % t.states) (class c x);
+  accepting = λ node. is_accepting a (node / t.states) && (if keeps then accepts_at t (node % t.states) else not (accepts_at t (node % t.states)));
+}
+
+-- it accepts what both accept
+pub record IsMeet (a : Automaton) (t : Table) (c : Constraint) (r : Automaton) : Type 0 where
+  pub over : r.symbols ≡ a.symbols
+  pub both : (w : List ℕ) → IsTrace a.symbols w → accepts r w ≡ (accepts a w && keeps_by t c w)
+  pub few_states : state_count r ≤ state_count a * t.states

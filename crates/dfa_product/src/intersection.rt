@@ -1,0 +1,32 @@
+ghost use Rattle.std.specs.Prelude.{◌≡◌, ◌<◌, ◌*◌, ◌^◌, IfOk, IfErr};
+ghost use Rattle.dfa_core.specs.Automaton.{IsBreadthFirst, state_count};
+ghost use Rattle.template_core.specs.Tables.{IsTable};
+ghost use Rattle.dfa_product.specs.Pairs.{IsMeet};
+
+use crate::pairs::Product;
+use decl_base::Refusal;
+use dfa_core::{Dfa, reachable};
+use std::alloc::Global;
+use template_core::{Constraint, Table};
+
+/// The automaton of the traces that `dfa` accepts and that keep the constraint.
+pub fn meet(
+    alloc: Global,
+    dfa: &Dfa,
+    table: &Table,
+    constraint: &Constraint,
+) -> Result<Dfa, Refusal>
+    requires table { IsTable table.now }
+    requires fits { state_count dfa.now * table.now.states < 2 ^ 32 }
+    ensures language { IfOk result (IsMeet dfa.now table.now constraint.now) }
+    ensures reached { IfOk result IsBreadthFirst }
+    ensures err { IfErr result (λ e. e ≡ Refusal.Memory) }
+{
+    let product = Product {
+        dfa,
+        table,
+        constraint,
+        keeps: true,
+    };
+    reachable(alloc, &product)
+}

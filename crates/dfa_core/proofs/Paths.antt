@@ -6,10 +6,12 @@ use Rattle.std.proofs.lemmas.Bool.{cases_eq, cases_lt}
 use Rattle.std.proofs.Math.Nat.{mul-le-mul_right, mod-lt}
 use Rattle.dfa_core.specs.Automaton.{Automaton, automaton, IsWhole, IsBreadthFirst, step, run}
 use Rattle.dfa_core.specs.Traces.{IsTrace}
-use Rattle.dfa_core.specs.Graph.{Graph, IsExplored, IsFirst, IsReachable, AllowsNone, walk, path}
+use Rattle.dfa_core.specs.Exploring.{IsExplored, path}
+use Rattle.dfa_core.specs.Graph.{Graph, Allows, IsReachable, allows, walk}
+use Rattle.dfa_core.specs.Languages.{HasNoMember, IsLeastMember}
 use Rattle.dfa_core.specs.Shortlex.{IsBefore, IsAtMost}
 use Rattle.dfa_core.proofs.Runs.{run-append, run-bound}
-use Rattle.dfa_core.proofs.Shortlex.{before-append, before-last, before-nil, at_most_trans, at_most-append}
+use Rattle.dfa_core.proofs.Shortlex.{before-append, before-last, before-nil, at_most_trans, at_most-append, not_before}
 
 trace-push : (n : ℕ) (w : List ℕ) (x : ℕ) → IsTrace n w → x < n → IsTrace n (w ++ x ∷ [])
 trace-push n [] x h lt = (lt, tt)
@@ -210,14 +212,14 @@ module _ (g : Graph) (nodes next found : List ℕ) (accepting : List Bool) (h : 
   walk-node w tw = ap (λ q. walk g q w) (sym h.first) ∙ sym (nodes-run 0 w h.some tw)
 
   -- the first number whose node is accepting
-  pub first-explored : (t : ℕ) → t < length nodes → g.accepting (get_or nodes t 0) ≡ true → ((k : ℕ) → k < t → g.accepting (get_or nodes k 0) ≡ false) → IsFirst g (to t)
+  pub first-explored : (t : ℕ) → t < length nodes → g.accepting (get_or nodes t 0) ≡ true → ((k : ℕ) → k < t → g.accepting (get_or nodes k 0) ≡ false) → IsLeastMember g.symbols (Allows g) (to t)
   first-explored t l ok before = record {
     over = to-over t t (omega arith) l;
-    allowed = ap g.accepting (to-node t l) ∙ ok;
-    least = λ w tw is.
+    member = ap g.accepting (to-node t l) ∙ ok;
+    none_before = λ w tw is before_it.
         let lr : run a 0 w < length nodes = omega (arith, e, run-bound a whole-explored 0 w (omega (arith, e, h.some)) tw) in
         let is2 : g.accepting (get_or nodes (run a 0 w) 0) ≡ true = ap g.accepting (sym (walk-node w tw)) ∙ is in
-        at_most_trans (to t) (to (run a 0 w)) w
+        not_before (to t) w (at_most_trans (to t) (to (run a 0 w)) w
         (elim (cases_lt t (run a 0 w)) [
           | inl less ↦ inr (to-in_order (run a 0 w) t (run a 0 w) (omega arith) less lr)
           | inr ge ↦ elim (cases_eq t (run a 0 w)) [
@@ -225,13 +227,15 @@ module _ (g : Graph) (nodes next found : List ℕ) (accepting : List Bool) (h : 
             | inr ne ↦ let no = before (run a 0 w) (omega arith) in absurd (cc (no, is2))
           ]
         ])
-        (to-least 0 [] w h.some tw (inl to-zero));
+        (to-least 0 [] w h.some tw (inl to-zero)))
+        before_it;
   }
 
-  pub none-explored : ((k : ℕ) → k < length nodes → g.accepting (get_or nodes k 0) ≡ false) → AllowsNone g
-  none-explored none w tw =
+  pub none-explored : ((k : ℕ) → k < length nodes → g.accepting (get_or nodes k 0) ≡ false) → HasNoMember g.symbols (Allows g)
+  none-explored none w tw is =
       let lr : run a 0 w < length nodes = omega (arith, e, run-bound a whole-explored 0 w (omega (arith, e, h.some)) tw) in
-      ap g.accepting (walk-node w tw) ∙ none (run a 0 w) lr
+      let no : allows g w ≡ false = ap g.accepting (walk-node w tw) ∙ none (run a 0 w) lr in
+      absurd (cc (no, is))
 
   run-in : (w : List ℕ) → IsTrace g.symbols w → run a 0 w < length nodes
   run-in w tw = omega (arith, e, run-bound a whole-explored 0 w (omega (arith, e, h.some)) tw)

@@ -1,6 +1,9 @@
 -- Runs of an automaton.
-use Rattle.std.proofs.Common.{◌≡◌, ℕ, zero, suc, ◌+◌, ◌*◌, ◌<◌, List, [], ◌∷◌, ◌++◌, length, replicate, Bool, true, false, get_or, refl, ap, ◌∙◌, arith, lit<}
+use Rattle.std.proofs.Common.{◌≡◌, ℕ, zero, suc, ◌+◌, ◌*◌, ◌<◌, ◌^◌, List, [], ◌∷◌, ◌++◌, length, replicate, Bool, true, false, get_or, refl, ap, ◌∙◌, arith, lit<}
+use Rattle.std.specs.List.{AllByRecursion}
 use Rattle.std.proofs.lemmas.List.{length-replicate}
+use Rattle.std.proofs.lemmas.Nat.{mul-add-lt}
+use Rattle.std.proofs.Math.Nat.{mul_comm}
 use Rattle.dfa_core.specs.Automaton.{Automaton, automaton, IsWhole, IsEverything, state_count, step, run, accepts, is_accepting}
 use Rattle.dfa_core.specs.Traces.{IsTrace}
 
@@ -38,4 +41,23 @@ everything-from_whole n next accepting f whole = record {
   over = refl;
   one_state = ap length f;
   accepts_all = accepts-one_state (automaton n 0 next accepting) whole (ap length f) (ap (λ (l : List Bool). get_or l 0 false) f);
+}
+
+below : (n : ℕ) (xs : List ℕ) (k : ℕ) → AllByRecursion (λ x. x < n) xs → k < length xs → get_or xs k 0 < n
+below n [] k all lt = absurd (omega (arith, lt))
+below n (x ∷ xs) zero all lt = all.0
+below n (x ∷ xs) (suc k) all lt = below n xs k all.1 (omega (arith, lt))
+
+-- a table whose entries are states
+pub whole-entries : (symbols start : ℕ) (next : List ℕ) (accepting : List Bool) → start < length accepting → length accepting < 2 ^ 32
+    → length next ≡ length accepting * symbols → AllByRecursion (λ x. x < length accepting) next → IsWhole (automaton symbols start next accepting)
+unfolding step
+whole-entries symbols start next accepting first few long all = record {
+  start_bound = first;
+  few_states = few;
+  table_length = long;
+  step_bound = λ q x lq lx.
+      let b = mul-add-lt q symbols x (length accepting) lq lx in
+      let m = mul_comm symbols (length accepting) in
+      below (length accepting) next (q * symbols + x) all (omega (arith, long, b, m));
 }

@@ -10,15 +10,19 @@ pub record Automaton : Type 0 where
   pub next : List ℕ
   pub accepting : List Bool
 
+-- the automaton of its four parts
 abbrev pub automaton : ℕ → ℕ → List ℕ → List Bool → Automaton
 automaton symbols start next accepting = record { symbols = symbols; start = start; next = next; accepting = accepting }
 
+-- as many states as there are marks of acceptance
 abbrev pub state_count : Automaton → ℕ
 state_count a = length a.accepting
 
+-- the state after a symbol
 unfoldable pub step : Automaton → ℕ → ℕ → ℕ
 step a q x = get_or a.next (q * a.symbols + x) 0
 
+-- whether a trace that ends at the state is accepted
 abbrev pub is_accepting : Automaton → ℕ → Bool
 is_accepting a q = get_or a.accepting q false
 
@@ -27,8 +31,13 @@ abbrev pub run : Automaton → ℕ → List ℕ → ℕ
 run a q [] = q
 run a q (x ∷ w) = run a (step a q x) w
 
+-- whether the run from the start ends at an accepting state
 abbrev pub accepts : Automaton → List ℕ → Bool
 accepts a w = is_accepting a (run a a.start w)
+
+-- the language of an automaton
+abbrev pub Accepts : Automaton → List ℕ → Type 0
+Accepts a w = accepts a w ≡ true
 
 -- the start and each entry of the table is a state
 pub record IsWhole (a : Automaton) : Type 0 where

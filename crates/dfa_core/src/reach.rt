@@ -1,5 +1,7 @@
 ghost use Rattle.std.specs.Prelude.{◌≡◌, ◌<◌, ◌+◌, ◌*◌, ◌++◌, ◌∷◌, ◌^◌, [], ℕ, replicate, None, Some, length, IfOk, IfErr, OnOk, MatchOption, slice_index, slice_index_or, slice_set, vec_len};
-ghost use Rattle.dfa_core.specs.Graph.{Graph, IsExplored, IsReachable, IsFirst, AllowsNone, AddsKnown, AddsNew, graph_of, path};
+ghost use Rattle.dfa_core.specs.Exploring.{IsExplored, AddsKnown, AddsNew, path};
+ghost use Rattle.dfa_core.specs.Graph.{Graph, Allows, IsReachable, graph_of};
+ghost use Rattle.dfa_core.specs.Languages.{HasNoMember, IsLeastMember};
 
 use crate::Dfa;
 use decl_base::{Refusal, Trace};
@@ -137,7 +139,7 @@ pub fn reachable<S: System>(alloc: Global, system: &S) -> Result<Dfa, Refusal>
 
 /// The least trace in shortlex order that the system allows.
 pub fn first_allowed<S: System>(alloc: Global, system: &S) -> Result<Option<Trace>, Refusal>
-    ensures ok { IfOk result (λ found. MatchOption found (AllowsNone (S.graph system.now)) (IsFirst (S.graph system.now))) }
+    ensures ok { IfOk result (λ found. MatchOption found (HasNoMember (S.graph system.now).symbols (Allows (S.graph system.now))) (IsLeastMember (S.graph system.now).symbols (Allows (S.graph system.now)))) }
     ensures err { IfErr result (λ e. e ≡ Refusal.Memory) }
 {
     let explored = explore(alloc, system)?;

@@ -1,7 +1,7 @@
 -- How many states a least automaton has, and how many traces its language tells apart.
-use Rattle.std.proofs.Common.{◌≡◌, ◌≢◌, ℕ, suc, ◌+◌, ◌<◌, ◌≤◌, inl, inr, List, [], ◌∷◌, ◌++◌, Bool, refl, sym, ap, ◌∙◌, arith}
+use Rattle.std.proofs.Common.{◌≡◌, ◌≢◌, ℕ, suc, ◌+◌, ◌<◌, ◌≤◌, inl, inr, List, [], ◌∷◌, ◌++◌, Bool, true, false, IsTrue, ◌↔◌, refl, sym, ap, ◌∙◌, arith}
 use Rattle.std.proofs.lemmas.Bool.{cases_eq, cases_lt}
-use Rattle.dfa_core.specs.Automaton.{Automaton, IsWhole, IsBreadthFirst, accepts, is_accepting, run, state_count}
+use Rattle.dfa_core.specs.Automaton.{Automaton, IsWhole, IsBreadthFirst, Accepts, accepts, is_accepting, run, state_count}
 use Rattle.dfa_core.specs.Traces.{IsTrace}
 use Rattle.dfa_core.proofs.Pigeons.{TakesNoneTwice, le_from_injection}
 use Rattle.dfa_core.proofs.Runs.{run-append, run-bound}
@@ -9,12 +9,13 @@ use Rattle.dfa_minimise.specs.Least.{IsLeast}
 use Rattle.dfa_minimise.specs.Wide.{TellsApart, IsWide}
 
 -- traces that are told apart lead to different states
-states_differ : (a : Automaton) (u v : List ℕ) → TellsApart a.symbols (accepts a) u v → run a a.start u ≢ run a a.start v
+states_differ : (a : Automaton) (u v : List ℕ) → TellsApart a.symbols (Accepts a) u v → run a a.start u ≢ run a a.start v
 states_differ a u v t same =
-    t.differs (ap (is_accepting a) (run-append a a.start u t.by ∙ (ap (λ q. run a q t.by) same ∙ sym (run-append a a.start v t.by))))
+    let e : accepts a (u ++ t.by) ≡ accepts a (v ++ t.by) = ap (is_accepting a) (run-append a a.start u t.by ∙ (ap (λ q. run a q t.by) same ∙ sym (run-append a a.start v t.by))) in
+    t.differs (λ is. sym e ∙ is, λ is. e ∙ is)
 
 -- a language that is wide for s wants more states than s
-pub states-from_wide : (a : Automaton) (s : ℕ) → IsWhole a → IsWide a.symbols (accepts a) s → s < state_count a
+pub states-from_wide : (a : Automaton) (s : ℕ) → IsWhole a → IsWide a.symbols (Accepts a) s → s < state_count a
 states-from_wide a s whole wide =
     let f : ℕ → ℕ = λ i. run a a.start (wide.trace i) in
     let once : TakesNoneTwice f (suc s) = λ i j li lj same. elim (cases_eq i j) [
@@ -27,8 +28,13 @@ states-from_wide a s whole wide =
     let le = le_from_injection f (suc s) (state_count a) (λ i li. run-bound a whole a.start (wide.trace i) whole.start_bound (wide.over i (omega arith))) once in
     omega (arith, le)
 
+both_or_none : (x y : Bool) → IsTrue x ↔ IsTrue y → x ≡ y
+both_or_none true y same = sym (same.0 refl)
+both_or_none false true same = same.1 refl
+both_or_none false false same = refl
+
 -- the least traces to two states are told apart by what tells the states apart
-pub wide-from_states : (a : Automaton) (s : ℕ) → IsLeast a → IsBreadthFirst a → s < state_count a → IsWide a.symbols (accepts a) s
+pub wide-from_states : (a : Automaton) (s : ℕ) → IsLeast a → IsBreadthFirst a → s < state_count a → IsWide a.symbols (Accepts a) s
 wide-from_states a s least order lt = record {
   trace = order.to;
   over = λ i le. order.over i (omega arith);
@@ -41,7 +47,7 @@ wide-from_states a s least order lt = record {
         over = t.over;
         differs = λ same. t.differs (
             ap (is_accepting a) (ap (λ q. run a q t.by) (sym (order.reached i li)) ∙ sym (run-append a a.start (order.to i) t.by))
-            ∙ (same ∙ ap (is_accepting a) (run-append a a.start (order.to j) t.by ∙ ap (λ q. run a q t.by) (order.reached j lj)))
+            ∙ (both_or_none (accepts a (order.to i ++ t.by)) (accepts a (order.to j ++ t.by)) same ∙ ap (is_accepting a) (run-append a a.start (order.to j) t.by ∙ ap (λ q. run a q t.by) (order.reached j lj)))
             );
       };
 }
@@ -51,15 +57,17 @@ trace-append n [] v tu tv = tv
 trace-append n (x ∷ u) v tu tv = (tu.0, trace-append n u v tu.1 tv)
 
 -- width is a fact of the traces that are members
-pub wide-same : (n s : ℕ) (p q : List ℕ → Bool) → ((w : List ℕ) → IsTrace n w → p w ≡ q w) → IsWide n p s → IsWide n q s
-wide-same n s p q same wide = record {
+pub wide-same : (n s : ℕ) (P Q : List ℕ → Type 0) → ((w : List ℕ) → IsTrace n w → P w ↔ Q w) → IsWide n P s → IsWide n Q s
+wide-same n s P Q same wide = record {
   trace = wide.trace;
   over = wide.over;
   apart = λ i j less le.
       let t = wide.apart i j less le in
+      let u = same (wide.trace i ++ t.by) (trace-append n (wide.trace i) t.by (wide.over i (omega arith)) t.over) in
+      let v = same (wide.trace j ++ t.by) (trace-append n (wide.trace j) t.by (wide.over j le) t.over) in
       record {
         by = t.by;
         over = t.over;
-        differs = λ e. t.differs (same _ (trace-append n (wide.trace i) t.by (wide.over i (omega arith)) t.over) ∙ (e ∙ sym (same _ (trace-append n (wide.trace j) t.by (wide.over j le) t.over))));
+        differs = λ e. t.differs (λ p. v.1 (e.0 (u.0 p)), λ p. u.1 (e.1 (v.0 p)));
       };
 }

@@ -1,5 +1,5 @@
 ghost use Rattle.std.specs.Prelude.{◌↔◌, IsTrue};
-ghost use Rattle.dfa_core.specs.Automaton.{IsBreadthFirst, accepts};
+ghost use Rattle.dfa_core.specs.Automaton.{Accepts, IsBreadthFirst};
 ghost use Rattle.dfa_minimise.specs.Least.{IsLeast};
 ghost use Rattle.dfa_minimise.specs.Wide.{IsWide};
 
@@ -9,7 +9,7 @@ use dfa_core::Dfa;
 pub fn is_wide(least: &Dfa, limit: u64) -> bool
     requires least { IsLeast least.now }
     requires order { IsBreadthFirst least.now }
-    ensures { IsTrue result ↔ IsWide least.now.symbols (accepts least.now) limit }
+    ensures { IsTrue result ↔ IsWide least.now.symbols (Accepts least.now) limit }
 {
     limit < least.states() as u64
 }

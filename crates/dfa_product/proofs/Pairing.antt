@@ -2,12 +2,13 @@
 use Rattle.std.proofs.Common.{◌≡◌, ℕ, ◌+◌, ◌*◌, ◌<◌, List, [], ◌∷◌, Option, Some, None, MatchOption, Bool, true, false, not, ◌&&◌, cond, refl, sym, ap, ◌∙◌}
 use Rattle.std.proofs.lemmas.Nat.{div-mul-add, mod-mul-add}
 use Rattle.dfa_core.specs.Automaton.{Automaton, accepts, is_accepting, run, step}
-use Rattle.dfa_core.specs.Graph.{walk, allows, IsReachable, IsFirst, AllowsNone, graph_of}
+use Rattle.dfa_core.specs.Graph.{Allows, walk, allows, IsReachable, graph_of}
+use Rattle.dfa_core.specs.Languages.{HasNoMember, IsLeastMember}
 use Rattle.template_core.specs.Tables.{IsTable, class, keeps_by, table_run, step as table_step}
 use Rattle.template_core.specs.declared.constraint.Constraint.{Constraint}
 use Rattle.template_core.specs.declared.table.Table.{Table}
 use Rattle.dfa_product.specs.Pairs.{pairs, IsMeet}
-use Rattle.dfa_product.specs.Wanted.{is_wanted, IsLeastWanted, IsUnwanted}
+use Rattle.dfa_product.specs.Wanted.{IsWanted}
 use Rattle.dfa_product.specs.declared.wanted.Want.TheVariants.{Accepted, Beside}
 
 walk-pairs : (a : Automaton) (t : Table) (c : Constraint) (keeps : Bool) → IsTable t → (q p : ℕ) (w : List ℕ) → p < t.states
@@ -33,42 +34,43 @@ meet-reachable a t c r h is = record {
   few_states = is.few;
 }
 
-wanted-beside : (a : Automaton) (t : Table) (c : Constraint) → IsTable t → (w : List ℕ) → allows (pairs a t c false) w ≡ is_wanted a (Beside t c) w
-wanted-beside a t c h w = allows-pairs a t c false h w
+and_true : (x y : Bool) → (x && not y) ≡ true → (x ≡ true) × (y ≡ false)
+and_true true true e = absurd (cc e)
+and_true true false e = (refl, refl)
+and_true false y e = absurd (cc e)
 
-pub least-beside : (a : Automaton) (t : Table) (c : Constraint) (trace : List ℕ) → IsTable t → IsFirst (pairs a t c false) trace → IsLeastWanted a (Beside t c) trace
-least-beside a t c trace h is = record {
-  over = is.over;
-  wanted = sym (wanted-beside a t c h trace) ∙ is.allowed;
-  least = λ w tw yes_. is.least w tw (wanted-beside a t c h w ∙ yes_);
+true_and : (x y : Bool) → x ≡ true → y ≡ false → (x && not y) ≡ true
+true_and x y e f = rw (e, f) refl
+
+-- a trace that the pairs allow is wanted
+beside-allowed : (a : Automaton) (t : Table) (c : Constraint) → IsTable t → (w : List ℕ) → Allows (pairs a t c false) w → IsWanted a (Beside t c) w
+beside-allowed a t c h w is = and_true (accepts a w) (keeps_by t c w) (sym (allows-pairs a t c false h w) ∙ is)
+
+allowed-beside : (a : Automaton) (t : Table) (c : Constraint) → IsTable t → (w : List ℕ) → IsWanted a (Beside t c) w → Allows (pairs a t c false) w
+allowed-beside a t c h w is = allows-pairs a t c false h w ∙ true_and (accepts a w) (keeps_by t c w) is.0 is.1
+
+pub found-beside : (a : Automaton) (t : Table) (c : Constraint) → IsTable t → (found : Option (List ℕ))
+    → MatchOption found (HasNoMember a.symbols (Allows (pairs a t c false))) (IsLeastMember a.symbols (Allows (pairs a t c false)))
+    → MatchOption found (HasNoMember a.symbols (IsWanted a (Beside t c))) (IsLeastMember a.symbols (IsWanted a (Beside t c)))
+found-beside a t c h None none = λ w tw is. none w tw (allowed-beside a t c h w is)
+found-beside a t c h (Some trace) least = record {
+  over = least.over;
+  member = beside-allowed a t c h trace least.member;
+  none_before = λ w tw is. least.none_before w tw (allowed-beside a t c h w is);
 }
-
-pub none-beside : (a : Automaton) (t : Table) (c : Constraint) → IsTable t → AllowsNone (pairs a t c false) → IsUnwanted a (Beside t c)
-none-beside a t c h none w tw = sym (wanted-beside a t c h w) ∙ none w tw
 
 walk-graph_of : (a : Automaton) (q : ℕ) (w : List ℕ) → walk (graph_of a) q w ≡ run a q w
 walk-graph_of a q [] = refl
 walk-graph_of a q (x ∷ w) = walk-graph_of a (step a q x) w
 
-wanted-accepted : (a : Automaton) (w : List ℕ) → allows (graph_of a) w ≡ is_wanted a Accepted w
-wanted-accepted a w = ap (is_accepting a) (walk-graph_of a a.start w)
+allows-graph_of : (a : Automaton) (w : List ℕ) → allows (graph_of a) w ≡ accepts a w
+allows-graph_of a w = ap (is_accepting a) (walk-graph_of a a.start w)
 
-pub least-accepted : (a : Automaton) (trace : List ℕ) → IsFirst (graph_of a) trace → IsLeastWanted a Accepted trace
-least-accepted a trace is = record {
-  over = is.over;
-  wanted = sym (wanted-accepted a trace) ∙ is.allowed;
-  least = λ w tw yes_. is.least w tw (wanted-accepted a w ∙ yes_);
+pub found-accepted : (a : Automaton) (found : Option (List ℕ)) → MatchOption found (HasNoMember a.symbols (Allows (graph_of a))) (IsLeastMember a.symbols (Allows (graph_of a)))
+    → MatchOption found (HasNoMember a.symbols (IsWanted a Accepted)) (IsLeastMember a.symbols (IsWanted a Accepted))
+found-accepted a None none = λ w tw is. none w tw (allows-graph_of a w ∙ is)
+found-accepted a (Some trace) least = record {
+  over = least.over;
+  member = sym (allows-graph_of a trace) ∙ least.member;
+  none_before = λ w tw is. least.none_before w tw (allows-graph_of a w ∙ is);
 }
-
-pub none-accepted : (a : Automaton) → AllowsNone (graph_of a) → IsUnwanted a Accepted
-none-accepted a none w tw = sym (wanted-accepted a w) ∙ none w tw
-
-pub found-beside : (a : Automaton) (t : Table) (c : Constraint) → IsTable t → (found : Option (List ℕ)) → MatchOption found (AllowsNone (pairs a t c false)) (IsFirst (pairs a t c false))
-    → MatchOption found (IsUnwanted a (Beside t c)) (IsLeastWanted a (Beside t c))
-found-beside a t c h None none = none-beside a t c h none
-found-beside a t c h (Some v) first = least-beside a t c v h first
-
-pub found-accepted : (a : Automaton) (found : Option (List ℕ)) → MatchOption found (AllowsNone (graph_of a)) (IsFirst (graph_of a))
-    → MatchOption found (IsUnwanted a Accepted) (IsLeastWanted a Accepted)
-found-accepted a None none = none-accepted a none
-found-accepted a (Some v) first = least-accepted a v first

@@ -17,7 +17,7 @@ pairs a t c keeps = record {
   accepting = λ node. is_accepting a (node / t.states) && (if keeps then accepts_at t (node % t.states) else not (accepts_at t (node % t.states)));
 }
 
--- it accepts what both accept
+-- It accepts the traces that both accept, with at most as many states as there are pairs.
 pub record IsMeet (a : Automaton) (t : Table) (c : Constraint) (r : Automaton) : Type 0 where
   pub over : r.symbols ≡ a.symbols
   pub both : (w : List ℕ) → IsTrace a.symbols w → accepts r w ≡ (accepts a w && keeps_by t c w)

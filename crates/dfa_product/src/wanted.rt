@@ -1,5 +1,6 @@
 ghost use Rattle.std.specs.Prelude.{◌≡◌, IfOk, IfErr, MatchOption};
-ghost use Rattle.dfa_product.specs.Wanted.{FitsStates, IsLeastWanted, IsUnwanted};
+ghost use Rattle.dfa_core.specs.Languages.{HasNoMember, IsLeastMember};
+ghost use Rattle.dfa_product.specs.Wanted.{FitsStates, IsWanted};
 
 use crate::pairs::Product;
 use decl_base::{Refusal, Trace};
@@ -22,7 +23,7 @@ pub enum Want {
 /// The least trace in shortlex order that is wanted of the automaton.
 pub fn first_trace(alloc: Global, dfa: &Dfa, want: &Want) -> Result<Option<Trace>, Refusal>
     requires { FitsStates dfa.now want.now }
-    ensures ok { IfOk result (λ found. MatchOption found (IsUnwanted dfa.now want.now) (IsLeastWanted dfa.now want.now)) }
+    ensures ok { IfOk result (λ found. MatchOption found (HasNoMember dfa.now.symbols (IsWanted dfa.now want.now)) (IsLeastMember dfa.now.symbols (IsWanted dfa.now want.now))) }
     ensures err { IfErr result (λ e. e ≡ Refusal.Memory) }
 {
     match want {

@@ -1,0 +1,8 @@
+use Rattle.std.proofs.Common.{[], ◌∷◌, true, false, refl, lit<}
+use Rattle.dfa_core.proofs.Runs.{whole-entries}
+use Rattle.dfa_core.proofs.tests.reached_states_are_numbered_breadth_first.Goals as goal
+
+pub of-dfa-requires : goal.of-dfa-requires
+of-dfa-requires g c =
+    rw (c.in_ok-next.ensures.items, c.in_ok-vec.ensures.items)
+    (whole-entries 2 2 (0 ∷ 0 ∷ 0 ∷ 1 ∷ 2 ∷ 0 ∷ []) (true ∷ true ∷ false ∷ []) (lit< tt) (lit< tt) refl (lit< tt, (lit< tt, (lit< tt, (lit< tt, (lit< tt, (lit< tt, tt)))))))

@@ -7,3 +7,5 @@ pub mod Events
 pub mod Starts
 pub mod Ends
 pub mod Numbers
+pub mod Renamed
+pub mod Ranked

@@ -1,0 +1,4 @@
+pub mod Simple
+pub mod First
+pub mod Numerals
+pub mod Taken

@@ -1,0 +1,54 @@
+-- What the text of an option means, where it is in the grammar of the option.
+use Rattle.std.specs.Prelude.{ℕ, List, Bool, ◌&&◌, Option, Some, None, codes, length, nat_le, if◌then◌else◌, option_and_then}
+use Rattle.std.specs.List.{list_all}
+use Rattle.std.specs.Str.{bytes_eq}
+use Rattle.decl_base.specs.Threshold.{is_digit, number_of_digits}
+use Rattle.log_columns.specs.declared.OrderAs.{OrderAs}
+use Rattle.log_columns.specs.declared.OrderAs.TheVariants as order
+use Rattle.minerful_words.specs.declared.settings.Command.{Command}
+use Rattle.minerful_words.specs.declared.settings.Command.TheVariants as command
+use Rattle.minerful_words.specs.declared.settings.Format.{Format}
+use Rattle.minerful_words.specs.declared.settings.Format.TheVariants as format
+use Rattle.minerful_words.specs.declared.settings.Stage.{Stage}
+use Rattle.minerful_words.specs.declared.settings.Stage.TheVariants as stage
+use Rattle.minerful_words.specs.declared.settings.Out.{Out}
+use Rattle.minerful_words.specs.declared.settings.Out.TheVariants as out
+
+-- one decimal digit to ten, and nothing else
+abbrev pub is_whole_number : List ℕ → Bool
+is_whole_number text = nat_le 1 (length text) && nat_le (length text) 10 && list_all is_digit text
+
+-- the whole number that a text writes in decimal digits
+unfoldable pub whole_number_of : List ℕ → Option ℕ
+whole_number_of text = if is_whole_number text then Some (number_of_digits text) else None
+
+-- the number, where it is within its bounds
+abbrev pub between : ℕ → ℕ → ℕ → Option ℕ
+between least most n = if nat_le least n && nat_le n most then Some n else None
+
+-- a limit on states
+unfoldable pub states_of : List ℕ → Option ℕ
+states_of text = option_and_then (between 1 65536) (whole_number_of text)
+
+unfoldable pub command_of : List ℕ → Option Command
+command_of text =
+    if bytes_eq text (codes "mine") then Some command.Mine
+    else (if bytes_eq text (codes "kb") then Some command.Kb else None)
+
+unfoldable pub format_of : List ℕ → Option Format
+format_of text =
+    if bytes_eq text (codes "string") then Some format.Strings
+    else (if bytes_eq text (codes "csv") then Some format.Csv else None)
+
+unfoldable pub order_as_of : List ℕ → Option OrderAs
+order_as_of text =
+    if bytes_eq text (codes "text") then Some order.Text
+    else (if bytes_eq text (codes "number") then Some order.Number else None)
+
+unfoldable pub stage_of : List ℕ → Option Stage
+stage_of text =
+    if bytes_eq text (codes "consistent") then Some stage.Consistent
+    else (if bytes_eq text (codes "scores") then Some stage.Scores else None)
+
+unfoldable pub out_of : List ℕ → Option Out
+out_of text = if bytes_eq text (codes "json") then Some out.Json else None

@@ -1,0 +1,62 @@
+ghost use Rattle.std.specs.Prelude.{◌≡◌, IfSome};
+ghost use Rattle.std.specs.List.{list_all};
+ghost use Rattle.decl_base.specs.Threshold.{is_digit};
+ghost use Rattle.minerful_words.specs.Settings.{IsLimit};
+ghost use Rattle.minerful_words.specs.Grammars.{order_as_of, states_of, whole_number_of, is_whole_number as has_whole_number_form};
+
+use log_columns::OrderAs;
+
+/// The number of digits that a whole number has at most.
+const DIGITS: usize = 10;
+
+/// The greatest limit on states that may be set.
+const MOST_STATES: u64 = 65_536;
+
+#[tactic(auto, unfolding(crate::specs::Grammars::order_as_of))]
+pub(crate) fn order_as_named(text: &str) -> Option<OrderAs>
+    ensures { result ≡ order_as_of text.now }
+{
+    match text {
+        "text" => Some(OrderAs::Text),
+        "number" => Some(OrderAs::Number),
+        _ => None,
+    }
+}
+
+/// A limit on states, from 1 to 65,536.
+#[tactic(auto, unfolding(crate::specs::Grammars::states_of))]
+pub(crate) fn states_named(text: &str) -> Option<u64>
+    ensures value { result ≡ states_of text.now }
+    ensures within { IfSome result IsLimit }
+{
+    let number = whole_number(text)?;
+    if 1 <= number && number <= MOST_STATES {
+        Some(number)
+    } else {
+        None
+    }
+}
+
+/// The number that 1 to 10 decimal digits write.
+#[tactic(auto, unfolding(crate::specs::Grammars::whole_number_of))]
+fn whole_number(text: &str) -> Option<u64>
+    ensures { result ≡ whole_number_of text.now }
+{
+    if is_whole_number(text.as_bytes()) {
+        text.parse().ok()
+    } else {
+        None
+    }
+}
+
+fn is_whole_number(text: &[u8]) -> bool
+    ensures { result ≡ has_whole_number_form text.now }
+{
+    !text.is_empty() && text.len() <= DIGITS && are_digits(text)
+}
+
+fn are_digits(bytes: &[u8]) -> bool
+    ensures { result ≡ list_all is_digit bytes.now }
+{
+    bytes.iter().all(|byte| byte.is_ascii_digit())
+}

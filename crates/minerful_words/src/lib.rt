@@ -1,0 +1,12 @@
+//! The words of the command line, and the settings that they give.
+#![tactic(auto)]
+
+mod choices;
+mod clap_command;
+mod grammars;
+mod settings;
+#[cfg(test)]
+mod tests;
+
+pub use log_columns::{Columns, OrderAs};
+pub use settings::{Command, Format, Out, Settings, Stage};

@@ -1,0 +1,122 @@
+ghost use Rattle.std.specs.Prelude.{◌≡◌, IfOk, map, string_bytes};
+ghost use Rattle.minerful_words.specs.Grammars.{command_of, format_of, stage_of, out_of};
+ghost use Rattle.minerful_words.specs.Settings.{settings, Gives, AreFractions, IsLimit};
+
+use crate::choices::{kb_settings, mine_settings};
+use decl_base::{Name, Refusal, Thresholds};
+use log_columns::Columns;
+use std::alloc::Global;
+
+/// What a run does.
+#[derive(Clone, Copy, Debug, PartialEq, Eq)]
+pub enum Command {
+    Mine,
+    Kb,
+}
+
+/// How a log is written.
+#[derive(Clone, Copy, Debug, PartialEq, Eq)]
+pub enum Format {
+    Strings,
+    Csv,
+}
+
+/// How far a log is mined.
+#[derive(Clone, Copy, Debug, PartialEq, Eq)]
+pub enum Stage {
+    Consistent,
+    Scores,
+}
+
+/// How a report is written.
+#[derive(Clone, Copy, Debug, PartialEq, Eq)]
+pub enum Out {
+    Json,
+}
+
+/// What the words of the command line ask for. What a command doesn't use has its default.
+#[derive(Debug, Drop)]
+pub struct Settings {
+    pub command: Command,
+    /// The name of the log's input, `-` for standard input.
+    pub log: Name,
+    pub format: Format,
+    pub columns: Columns,
+    pub thresholds: Thresholds,
+    /// The greatest number of states of an automaton.
+    pub states: u64,
+    pub stage: Stage,
+    pub out: Out,
+}
+
+impl Settings {
+    /// The settings that the words after the program's name give. `Usage` is 0 where the first word names no command,
+    /// 1 where the command doesn't take the words, and else the least number of an option whose value isn't in its
+    /// grammar.
+    #[tactic(auto, unfolding(crate::specs::Settings::settings))]
+    pub fn read(alloc: Global, words: &[String]) -> Result<Settings, Refusal>
+        ensures value { Gives result (settings (map string_bytes words.now)) }
+        ensures thresholds { IfOk result (λ s. AreFractions s.thresholds) }
+        ensures states { IfOk result (λ s. IsLimit s.states) }
+    {
+        let Some(word) = words.first() else {
+            return Err(Refusal::Usage { at: 0 });
+        };
+        match Command::named(word.as_str()) {
+            Some(Command::Mine) => mine_settings(alloc, words),
+            Some(Command::Kb) => kb_settings(alloc, words),
+            None => Err(Refusal::Usage { at: 0 }),
+        }
+    }
+}
+
+impl Command {
+    #[tactic(auto, unfolding(crate::specs::Grammars::command_of))]
+    pub(crate) fn named(text: &str) -> Option<Command>
+        ensures { result ≡ command_of text.now }
+    {
+        match text {
+            "mine" => Some(Command::Mine),
+            "kb" => Some(Command::Kb),
+            _ => None,
+        }
+    }
+}
+
+impl Format {
+    #[tactic(auto, unfolding(crate::specs::Grammars::format_of))]
+    pub(crate) fn named(text: &str) -> Option<Format>
+        ensures { result ≡ format_of text.now }
+    {
+        match text {
+            "string" => Some(Format::Strings),
+            "csv" => Some(Format::Csv),
+            _ => None,
+        }
+    }
+}
+
+impl Stage {
+    #[tactic(auto, unfolding(crate::specs::Grammars::stage_of))]
+    pub(crate) fn named(text: &str) -> Option<Stage>
+        ensures { result ≡ stage_of text.now }
+    {
+        match text {
+            "consistent" => Some(Stage::Consistent),
+            "scores" => Some(Stage::Scores),
+            _ => None,
+        }
+    }
+}
+
+impl Out {
+    #[tactic(auto, unfolding(crate::specs::Grammars::out_of))]
+    pub(crate) fn named(text: &str) -> Option<Out>
+        ensures { result ≡ out_of text.now }
+    {
+        match text {
+            "json" => Some(Out::Json),
+            _ => None,
+        }
+    }
+}

@@ -1,4 +1,0 @@
-pub mod Renaming
-pub mod Orders
-pub mod Priorities
-pub mod Numbers

@@ -2,8 +2,8 @@
 use Rattle.std.proofs.Common.{◌≡◌, ℕ, ◌<◌, ◌≤◌, List, ◌++◌, Option, None, Some, Ok, IfSome, refl, sym, ap, subst, ◌∙◌, append_assoc, arith, take}
 use Rattle.std.specs.Io.KnownBytes.{prepend_known}
 use Rattle.decl_outside.specs.Inputs.{InputState, KeepsInput, Reads}
-use Rattle.decl_outside.specs.Lines.{line_length, IsLong}
-use Rattle.decl_outside.proofs.Lining.{line_length-longer}
+use Rattle.decl_outside.specs.Lines.{line_length, BeginsLong, IsLong}
+use Rattle.decl_outside.proofs.Lining.{line_length-longer, begins_long}
 
 -- what is still to come is what was to come
 pub record IsHeld (old now : InputState) (before held : List ℕ) : Type 0 where
@@ -33,6 +33,6 @@ line_length-more held more piece n is grown = subst (λ l. n ≤ line_length l) 
 
 -- the line is too long whatever stands behind
 pub long_line : (limit : ℕ) (held : List ℕ) (left rest : Option (List ℕ)) → prepend_known held left ≡ rest → limit < line_length held → IsLong limit held rest
-long_line limit held None rest is long = (long, subst (λ r. IfSome r (λ bytes. limit < line_length bytes)) is tt)
+long_line limit held None rest is long = (long, subst (λ r. IfSome r (BeginsLong limit)) is tt)
 long_line limit held (Some xs) rest is long =
-    (long, subst (λ r. IfSome r (λ bytes. limit < line_length bytes)) is (omega (arith, line_length-longer held xs)))
+    (long, subst (λ r. IfSome r (BeginsLong limit)) is (begins_long limit (held ++ xs) (omega (arith, line_length-longer held xs))))

@@ -3,7 +3,7 @@ ghost use Rattle.std.specs.Io.KnownBytes.{prepend_known, IsAtEnd};
 ghost use Rattle.std.specs.Str.Lines.{strip_carriage_return};
 ghost use Rattle.decl_outside.specs.Held.{held_bytes};
 ghost use Rattle.decl_outside.specs.Inputs.{KeepsInput};
-ghost use Rattle.decl_outside.specs.Lines.{line_length, FillCause, IsFirstLine, TellsLast, HasNoneLeft};
+ghost use Rattle.decl_outside.specs.Lines.{line_length, FillCause, TakesFirst, HasNoneLeft};
 
 use crate::held::Held;
 use crate::{Failed, Inputs};
@@ -92,9 +92,8 @@ pub fn take_line<I: Inputs>(
     requires room { 0 < length piece.old }
     requires open { (I.state inputs.old).is_open ≡ true }
     ensures keeps { KeepsInput (I.state inputs.old) (I.state inputs.new) }
-    ensures line { IfOk result (λ found. IfSome found (λ f. IsFirstLine limit (prepend_known (held_bytes held.old) (I.state inputs.old).left)
-        (prepend_known (held_bytes held.new) (I.state inputs.new).left) (slice_range held.new.bytes.items f.from f.to))) }
-    ensures last { IfOk result (λ found. IfSome found (λ f. TellsLast f.is_last (prepend_known (held_bytes held.old) (I.state inputs.old).left))) }
+    ensures line { IfOk result (λ found. IfSome found (λ f. TakesFirst limit (prepend_known (held_bytes held.old) (I.state inputs.old).left)
+        (prepend_known (held_bytes held.new) (I.state inputs.new).left) (slice_range held.new.bytes.items f.from f.to) f.is_last)) }
     ensures ordered { IfOk result (λ found. IfSome found (λ f. f.from ≤ f.to)) }
     ensures inside { IfOk result (λ found. IfSome found (λ f. f.to ≤ vec_len held.new.bytes)) }
     ensures none { IfOk result (λ found. IfNone found (HasNoneLeft (prepend_known (held_bytes held.old) (I.state inputs.old).left))) }

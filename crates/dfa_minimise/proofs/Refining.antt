@@ -2,8 +2,9 @@
 use Rattle.std.proofs.Common.{◌≡◌, inl, inr, ℕ, ◌+◌, ◌<◌, ◌≤◌, List, [], ◌∷◌, get_or, eqb, refl, sym, ap, ◌∙◌, arith}
 use Rattle.std.proofs.lemmas.Bool.{cases_eq}
 use Rattle.dfa_core.specs.Automaton.{Automaton, IsWhole, state_count, step}
+use Rattle.dfa_minimise.proofs.Progress.{IsStableBelow}
 use Rattle.dfa_minimise.specs.Partitions.{IsCut, is_in}
-use Rattle.dfa_minimise.specs.Classes.{AreAccepting, LeadTo, IsSound, IsStableBelow}
+use Rattle.dfa_minimise.specs.Classes.{AreAccepting, LeadTo, IsSound}
 
 -- accepting states and others
 pub sound-accepting : (a : Automaton) (count : ℕ) (states old new : List ℕ) → ((q : ℕ) → get_or old q 0 ≡ 0) → AreAccepting a states → IsCut (state_count a) count states old new → IsSound a new

@@ -2,7 +2,8 @@
 use Rattle.std.proofs.Common.{◌≡◌, inl, inr, ℕ, zero, suc, ◌+◌, ◌^◌, ◌<◌, List, [], ◌∷◌, ◌++◌, Bool, true, false, ◌||◌, eqb, length, get_or, refl, sym, ap, ◌∙◌, arith}
 use Rattle.std.proofs.lemmas.Bool.{cases_eq, cases_lt}
 use Rattle.std.proofs.lemmas.List.{get_or_past}
-use Rattle.dfa_minimise.specs.Partitions.{IsTidy, Marks, HasNoMarks, CutsClass, IsCut, IsMarkedSoFar, IsCutSoFar, is_in, is_marked}
+use Rattle.dfa_minimise.proofs.Progress.{IsMarkedSoFar, IsCutSoFar}
+use Rattle.dfa_minimise.specs.Partitions.{IsTidy, Marks, HasNoMarks, CutsClass, IsCut, is_in, is_marked}
 use Rattle.dfa_minimise.specs.declared.refinable.Refinable.{Refinable}
 use Rattle.dfa_minimise.proofs.Marking.{ltb_yes, ltb_not, or-false}
 

@@ -3,7 +3,8 @@ use Rattle.std.proofs.Common.{◌≡◌, inl, inr, ℕ, zero, suc, ◌+◌, ◌-
 use Rattle.std.proofs.lemmas.Bool.{cases_eq}
 use Rattle.std.proofs.lemmas.List.{get_or-take, get_or-drop, get_or-map, length-map, length_push}
 use Rattle.dfa_core.proofs.Finding.{pushed}
-use Rattle.dfa_minimise.specs.Partitions.{IsPartition, IsTidy, IsCounting, is_in, members_of}
+use Rattle.dfa_minimise.proofs.Progress.{IsCounting}
+use Rattle.dfa_minimise.specs.Partitions.{IsPartition, IsTidy, is_in, members_of}
 use Rattle.dfa_minimise.specs.Classes.{AreInClass}
 use Rattle.dfa_minimise.specs.declared.refinable.Refinable.{Refinable}
 use Rattle.dfa_minimise.proofs.Splitting.{is_in-place}

@@ -15,26 +15,24 @@ pub record IsSound (a : Automaton) (class : List ℕ) : Type 0 where
   pub apart : (q r : ℕ) → q < state_count a → r < state_count a → (get_or class q 0 ≡ get_or class r 0 → ⊥) → AreToldApart a q r
   pub alike : (q r : ℕ) → q < state_count a → r < state_count a → get_or class q 0 ≡ get_or class r 0 → is_accepting a q ≡ is_accepting a r
 
--- where a symbol leads two states of one class into classes below a number, it leads them into one class
-pub record IsStableBelow (a : Automaton) (class : List ℕ) (count : ℕ) : Type 0 where
-  pub stable : (q r x : ℕ) → q < state_count a → r < state_count a → x < a.symbols → get_or class q 0 ≡ get_or class r 0
-      → get_or class (step a q x) 0 < count → get_or class (step a r x) 0 < count → get_or class (step a q x) 0 ≡ get_or class (step a r x) 0
-
+-- Classes of states such that no continuation tells two of one class apart, and some continuation each two of different classes.
 pub record IsEquivalence (a : Automaton) (class members : List ℕ) : Type 0 where
   pub whole : IsWhole a
   pub partition : IsPartition (state_count a) class members
   pub sound : IsSound a class
   pub stable : (q r x : ℕ) → q < state_count a → r < state_count a → x < a.symbols → get_or class q 0 ≡ get_or class r 0 → get_or class (step a q x) 0 ≡ get_or class (step a r x) 0
 
--- a class of one moment, and states that a symbol leads into it
+-- the accepting states
 pub record AreAccepting (a : Automaton) (states : List ℕ) : Type 0 where
   pub bound : (k : ℕ) → k < length states → get_or states k 0 < state_count a
   pub are : (q : ℕ) → q < state_count a → is_in states q ≡ is_accepting a q
 
+-- the states from which a symbol leads to one of the targets
 pub record LeadTo (a : Automaton) (x : ℕ) (targets states : List ℕ) : Type 0 where
   pub bound : (k : ℕ) → k < length states → get_or states k 0 < state_count a
   pub are : (q : ℕ) → q < state_count a → is_in states q ≡ is_in targets (step a q x)
 
+-- the states of a class
 pub record AreInClass (n c : ℕ) (class states : List ℕ) : Type 0 where
   pub bound : (k : ℕ) → k < length states → get_or states k 0 < n
   pub are : (q : ℕ) → q < n → is_in states q ≡ (get_or class q 0 == c)

@@ -36,6 +36,7 @@ pub record MarksFit (first end marked : List ℕ) : Type 0 where
   pub marks_length : length marked ≡ length first
   pub marks_bound : (c : ℕ) → c < length first → get_or first c 0 + get_or marked c 0 ≤ get_or end c 0
 
+-- whether a state stands among the marked ones of its class
 abbrev pub is_marked : List ℕ → List ℕ → List ℕ → List ℕ → ℕ → Bool
 is_marked place class first marked q = nat_lt (get_or place q 0) (get_or first (get_or class q 0) 0 + get_or marked (get_or class q 0) 0)
 
@@ -53,6 +54,7 @@ pub record Marks (n : ℕ) (old new : Refinable) (state : ℕ) : Type 0 where
   pub marks : (q : ℕ) → q < n
       → is_marked new.place.items old.class.items old.first.items new.marked.items q ≡ (is_marked old.place.items old.class.items old.first.items old.marked.items q || (state == q))
 
+-- whether a state is one of a list
 abbrev pub is_in : List ℕ → ℕ → Bool
 is_in states q = list_any (λ x. x == q) states
 
@@ -63,6 +65,7 @@ pub record IsCut (n count : ℕ) (touched old new : List ℕ) : Type 0 where
   pub together : (q r : ℕ) → q < n → r < n → get_or new q 0 ≡ get_or new r 0 → is_in touched q ≡ is_in touched r
   pub stays : (q : ℕ) → q < n → get_or new q 0 < count → get_or new q 0 ≡ get_or old q 0
 
+-- a partition of fewer than 2^32 states that has no mark
 pub record IsTidy (p : Refinable) : Type 0 where
   pub refinable : IsRefinable (length p.class.items) p.order.items p.place.items p.class.items p.first.items p.end.items
   pub fit : MarksFit p.first.items p.end.items p.marked.items
@@ -96,41 +99,3 @@ pub record CutsClass (old new : Refinable) (c : ℕ) : Type 0 where
       → is_marked old.place.items old.class.items old.first.items old.marked.items q ≡ is_marked old.place.items old.class.items old.first.items old.marked.items r → get_or new.class.items q 0 ≡ get_or new.class.items r 0
   pub together : (q r : ℕ) → q < length old.class.items → r < length old.class.items → get_or old.class.items q 0 ≡ c → get_or old.class.items r 0 ≡ c → get_or new.class.items q 0 ≡ get_or new.class.items r 0
       → is_marked old.place.items old.class.items old.first.items old.marked.items q ≡ is_marked old.place.items old.class.items old.first.items old.marked.items r
-
--- what holds once some of the touched states are marked
-pub record IsMarkedSoFar (old now : Refinable) (touched : List ℕ) : Type 0 where
-  pub refinable : IsRefinable (length old.class.items) now.order.items now.place.items old.class.items old.first.items old.end.items
-  pub class : now.class.items ≡ old.class.items
-  pub first : now.first.items ≡ old.first.items
-  pub end : now.end.items ≡ old.end.items
-  pub fit : MarksFit old.first.items old.end.items now.marked.items
-  pub marks : (q : ℕ) → q < length old.class.items → is_marked now.place.items old.class.items old.first.items now.marked.items q ≡ is_in touched q
-
--- what holds once the classes of some of the touched states are cut
-pub record IsCutSoFar (old now : Refinable) (touched : List ℕ) (at : ℕ) : Type 0 where
-  pub refinable : IsRefinable (length old.class.items) now.order.items now.place.items now.class.items now.first.items now.end.items
-  pub fit : MarksFit now.first.items now.end.items now.marked.items
-  pub class_length : length now.class.items ≡ length old.class.items
-  pub grows : length old.first.items ≤ length now.first.items
-  pub refines : (q r : ℕ) → q < length old.class.items → r < length old.class.items → get_or now.class.items q 0 ≡ get_or now.class.items r 0 → get_or old.class.items q 0 ≡ get_or old.class.items r 0
-  pub parts : (q r : ℕ) → q < length old.class.items → r < length old.class.items → get_or old.class.items q 0 ≡ get_or old.class.items r 0 → (get_or now.class.items q 0 ≡ get_or now.class.items r 0 → ⊥)
-      → is_in touched q ≡ is_in touched r → ⊥
-  pub clean : (q r : ℕ) → q < length old.class.items → r < length old.class.items → get_or now.marked.items (get_or now.class.items q 0) 0 ≡ 0 → get_or now.class.items q 0 ≡ get_or now.class.items r 0 → is_in touched q ≡ is_in touched r
-  pub dirty : (q : ℕ) → q < length old.class.items → 0 < get_or now.marked.items (get_or now.class.items q 0) 0 → is_marked now.place.items now.class.items now.first.items now.marked.items q ≡ is_in touched q
-  pub done : (j : ℕ) → j < at → get_or now.marked.items (get_or now.class.items (get_or touched j 0) 0) 0 ≡ 0
-  pub stays : (q : ℕ) → q < length old.class.items → get_or now.class.items q 0 < length old.first.items → get_or now.class.items q 0 ≡ get_or old.class.items q 0
-
--- the numbers below n in order
-pub record IsCounting (n : ℕ) (xs : List ℕ) : Type 0 where
-  pub counted : length xs ≡ n
-  pub each : (i : ℕ) → i < n → get_or xs i 0 ≡ i
-
--- each state at its own place, in one class
-pub record IsWhole (n : ℕ) (p : Refinable) : Type 0 where
-  pub order : IsCounting n p.order.items
-  pub place : IsCounting n p.place.items
-  pub class_length : length p.class.items ≡ n
-  pub class : (q : ℕ) → get_or p.class.items q 0 ≡ 0
-  pub first : p.first.items ≡ 0 ∷ []
-  pub end : p.end.items ≡ n ∷ []
-  pub marked : p.marked.items ≡ 0 ∷ []

@@ -1,5 +1,5 @@
 -- Which traces of an automaton are wanted.
-use Rattle.std.specs.Prelude.{◌≡◌, ℕ, ◌*◌, ◌<◌, ◌^◌, List, Bool, true, false}
+use Rattle.std.specs.Prelude.{◌≡◌, ℕ, ◌*◌, ◌<◌, ◌^◌, List, false}
 use Rattle.dfa_core.specs.Automaton.{Automaton, Accepts, state_count}
 use Rattle.template_core.specs.Tables.{IsTable, keeps_by}
 use Rattle.dfa_product.specs.declared.wanted.Want.{Want}

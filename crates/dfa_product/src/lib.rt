@@ -8,3 +8,6 @@ mod wanted;
 
 pub use intersection::meet;
 pub use wanted::{Want, first_trace};
+
+#[cfg(test)]
+mod tests;

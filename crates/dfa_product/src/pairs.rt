@@ -2,8 +2,8 @@ ghost use Rattle.std.specs.Prelude.{◌<◌, ◌*◌, ◌^◌};
 ghost use Rattle.dfa_core.specs.Automaton.{IsWhole, state_count};
 ghost use Rattle.template_core.specs.Tables.{IsTable};
 
-use dfa_core::{Dfa, System};
 use crate::table::{is_accepting, next_state};
+use dfa_core::{Dfa, System};
 use template_core::{Constraint, Table, class_of};
 
 /// An automaton and a constraint's table side by side. It allows a trace that the automaton accepts and that keeps the constraint, or doesn't keep it.

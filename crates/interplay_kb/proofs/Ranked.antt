@@ -1,13 +1,13 @@
 -- What a knowledge base tells at an id is what the log of ranks has at its rank.
 use Rattle.std.proofs.Common.{◌≡◌, ◌≢◌, ℕ, zero, suc, ◌<◌, ◌≤◌, List, [], ◌∷◌, ◌++◌, Bool, true, false, not, eqb, nat_eq, length, map, take, get_or, sum_by, refl, sym, ap, ap₂, ◌∙◌, subst, arith, ◌⊎◌, ⊎_elim, length-append}
 use Rattle.std.proofs.lemmas.Bool.{false≢true, eqb-true, eq-eqb, or_cases, or_left, or_right}
-use Rattle.std.proofs.lemmas.List.{get_or-take, length-take-le, get_or_past}
+use Rattle.std.proofs.lemmas.List.{get_or-take, length-take-le, get_or_past, length-map}
 use Rattle.std.proofs.lemmas.List.Sums.{sum_by-cons}
 use Rattle.template_core.specs.Events.{occurs}
 use Rattle.template_core.specs.Counters.{occurrences}
 use Rattle.template_core.specs.Counts.{unary_counts, pair_counts}
 use Rattle.template_core.proofs.Gains.{occurs-count}
-use Rattle.interplay_kb.specs.Ranks.{AreRanks, AreIds, ranked}
+use Rattle.interplay_kb.specs.Ranks.{AreRanks, AreIds, ranked, TellsOf}
 use Rattle.interplay_kb.specs.Steps.{IsPresent, no_activity}
 use Rattle.interplay_kb.specs.Stands.{StandsFor, activity_count}
 use Rattle.interplay_kb.specs.declared.kb.Kb.{Kb}
@@ -151,3 +151,24 @@ pub ids_differ : (n : ℕ) (ranks ids : List ℕ) → AreRanks n ranks → AreId
     → first ≢ second → get_or ids first 0 ≢ get_or ids second 0
 ids_differ n ranks ids r i first second h k differ e =
     differ (sym (at_rank n ranks ids r i first h) ∙ ap (rank_of ranks) e ∙ at_rank n ranks ids r i second k)
+
+-- the same, of the traces of what a knowledge base tells
+module _ (kb : Kb) (ids : List ℕ) (log : List (List ℕ)) (t : TellsOf kb ids log) where
+  pub id_known : (rank : ℕ) → rank < activity_count kb → get_or ids rank 0 < activity_count kb
+  id_known rank h = omega (arith, t.inverse.known rank (omega (arith, h, t.ranking.long)), t.ranking.long)
+
+  pub ids_apart : (first second : ℕ) → first < activity_count kb → second < activity_count kb → first ≢ second → get_or ids first 0 ≢ get_or ids second 0
+  ids_apart first second h k differ = ids_differ (activity_count kb) t.ranks ids t.ranking t.inverse first second h k differ
+
+  pub unary_told : (rank : ℕ) → rank < activity_count kb → unary_counts (get_or ids rank 0) t.ended ≡ unary_counts rank log
+  unary_told rank h = unary_at kb t.ended t.ranks ids t.stands t.ranking t.inverse rank h ∙ ap (unary_counts rank) (sym t.is)
+
+  pub pair_told : (first second : ℕ) → first < activity_count kb → second < activity_count kb
+      → pair_counts (get_or ids first 0) (get_or ids second 0) t.ended ≡ pair_counts first second log
+  pair_told first second h k = pair_at kb t.ended t.ranks ids t.stands t.ranking t.inverse first second h k ∙ ap (pair_counts first second) (sym t.is)
+
+  pub traces_told : length t.ended ≡ length log
+  traces_told = sym (length-map t.ended (map (get_or_zero t.ranks))) ∙ ap length (sym t.is)
+    where
+      get_or_zero : List ℕ → ℕ → ℕ
+      get_or_zero ranks id = get_or ranks id 0

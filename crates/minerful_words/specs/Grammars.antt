@@ -1,5 +1,5 @@
 -- What the text of an option means, where it is in the grammar of the option.
-use Rattle.std.specs.Prelude.{ℕ, List, Bool, ◌&&◌, Option, Some, None, codes, length, nat_le, if◌then◌else◌, option_and_then}
+use Rattle.std.specs.Prelude.{◌≤◌, ℕ, List, Bool, ◌&&◌, Option, Some, None, codes, length, nat_le, if◌then◌else◌, option_and_then}
 use Rattle.std.specs.List.{list_all}
 use Rattle.std.specs.Str.{bytes_eq}
 use Rattle.decl_base.specs.Threshold.{is_digit, number_of_digits}
@@ -25,6 +25,9 @@ whole_number_of text = if is_whole_number text then Some (number_of_digits text)
 -- the number, where it is within its bounds
 abbrev pub between : ℕ → ℕ → ℕ → Option ℕ
 between least most n = if nat_le least n && nat_le n most then Some n else None
+
+abbrev pub IsLimit : ℕ → Type 0
+IsLimit states = (1 ≤ states) × (states ≤ 65536)
 
 -- a limit on states
 unfoldable pub states_of : List ℕ → Option ℕ

@@ -80,9 +80,6 @@ thresholds_in found = do
 abbrev pub default_states : ℕ
 default_states = 16384
 
-abbrev pub IsLimit : ℕ → Type 0
-IsLimit states = (1 ≤ states) × (states ≤ 65536)
-
 unfoldable pub states_in : List Row → Result ℕ ℕ
 states_in = choice 10 (codes "max-states") states_of default_states
 

@@ -1,6 +1,10 @@
 ghost use Rattle.std.specs.Prelude.{◌≡◌, ◌≤◌, Ok, IfOk, IfErr, map, string_bytes};
 ghost use Rattle.clap.specs.Words.{found_of, rows_of};
-ghost use Rattle.minerful_words.specs.Settings.{Gives, AreFractions, IsLimit, choice, read_threshold, format_in, columns_in, order_as_in, thresholds_in, states_in, stage_in, out_in, log_in, settings_for, mine_settings as settings_of_mine, kb_settings as settings_of_kb};
+ghost use Rattle.minerful_words.specs.Grammars.{IsLimit};
+ghost use Rattle.minerful_words.specs.Settings.{Gives, AreFractions, choice, read_threshold};
+ghost use Rattle.minerful_words.specs.Settings.{format_in, order_as_in, columns_in, thresholds_in};
+ghost use Rattle.minerful_words.specs.Settings.{states_in, stage_in, out_in, log_in, settings_for};
+ghost use Rattle.minerful_words.specs.Settings.{mine_settings as settings_of_mine, kb_settings as settings_of_kb};
 
 use crate::clap_command::{parse, text_of};
 use crate::grammars::{order_as_named, states_named};

@@ -1,8 +1,7 @@
 ghost use Rattle.std.specs.Prelude.{◌≡◌, IfSome};
 ghost use Rattle.std.specs.List.{list_all};
 ghost use Rattle.decl_base.specs.Threshold.{is_digit};
-ghost use Rattle.minerful_words.specs.Settings.{IsLimit};
-ghost use Rattle.minerful_words.specs.Grammars.{order_as_of, states_of, whole_number_of, is_whole_number as has_whole_number_form};
+ghost use Rattle.minerful_words.specs.Grammars.{IsLimit, order_as_of, states_of, whole_number_of, is_whole_number as has_whole_number_form};
 
 use log_columns::OrderAs;
 

@@ -1,6 +1,6 @@
 ghost use Rattle.std.specs.Prelude.{◌≡◌, IfOk, map, string_bytes};
-ghost use Rattle.minerful_words.specs.Grammars.{command_of, format_of, stage_of, out_of};
-ghost use Rattle.minerful_words.specs.Settings.{settings, Gives, AreFractions, IsLimit};
+ghost use Rattle.minerful_words.specs.Grammars.{IsLimit, command_of, format_of, stage_of, out_of};
+ghost use Rattle.minerful_words.specs.Settings.{settings, Gives, AreFractions};
 
 use crate::choices::{kb_settings, mine_settings};
 use decl_base::{Name, Refusal, Thresholds};

@@ -1,6 +1,7 @@
 -- The repertoire: at which places of a trace a constraint is activated, and where it is fulfilled.
 -- A trace of n events has the places 0 to n - 1, which are its events, and the place n, which stands for the whole trace.
-use Rattle.std.specs.Prelude.{◌≡◌, ℕ, suc, ◌≤◌, List, Bool, true, false, ◌&&◌, ◌||◌, not, if◌then◌else◌, ◌==◌, length, sum_by, nat_lt}
+use Rattle.std.specs.Prelude.{◌≡◌, ℕ, suc, ◌≤◌, List, Bool, true, false, ◌&&◌, ◌||◌, not, if◌then◌else◌, ◌==◌, length, filter, sum_by, nat_lt}
+use Rattle.std.specs.List.{range_with_len}
 use Rattle.template_core.specs.Counters.{occurrences}
 use Rattle.template_core.specs.Events.{count_places, all_places, at_place, occurs, is_first, is_last, before_first, after_last}
 use Rattle.template_core.specs.Tests.{has, has_later, has_earlier, has_next, has_previous}
@@ -96,6 +97,13 @@ module _ {A : Type 0} (same : A → A → Bool) where
   abbrev pub keeps : Kind → A → A → List A → Bool
   keeps kind a b trace =
       all_places (λ place. not (is_activated kind a b trace place) || is_fulfilled kind a b trace place) (suc (length trace))
+
+  -- the activated places of a trace, and those that are fulfilled too
+  abbrev pub activated_places : Kind → A → A → List A → List ℕ
+  activated_places kind a b trace = filter (is_activated kind a b trace) (range_with_len 0 (suc (length trace)))
+
+  abbrev pub fulfilled_places : Kind → A → A → List A → List ℕ
+  fulfilled_places kind a b trace = filter (is_fulfilled kind a b trace) (activated_places kind a b trace)
 
   -- how many places of the traces of a log are activated, and how many are activated and fulfilled
   abbrev pub activated : Kind → A → A → List (List A) → ℕ

@@ -9,3 +9,6 @@ mod tables;
 pub use names::{kind_of, kinds, name};
 pub use numbers::{Numbers, arity, counts_of};
 pub use tables::table_of;
+
+#[cfg(test)]
+mod tests;

@@ -6,9 +6,7 @@ pub struct NotChainSuccession;
 impl Template for NotChainSuccession {
     ghost use Rattle.std.proofs.Common.{refl};
     ghost use Rattle.std.specs.Prelude.{nat_eq, ◌-◌, ◌+◌};
-    ghost use Rattle.template_core.specs.Repertoire.{none};
     ghost use Rattle.template_core.specs.declared.kind.Kind.TheVariants.{NotChainSuccession as the_kind};
-    ghost use Rattle.template_core.specs.Tests.{has_next, has_previous};
     ghost use Rattle.template_core.proofs.Parts.{each_of_both, each_not_chained};
     ghost use Rattle.template_core.proofs.Runs.{apart};
     ghost use Rattle.templates_neg.specs.NotChainSuccession.{next_after, accepts, kept};

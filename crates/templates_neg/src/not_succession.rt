@@ -5,7 +5,7 @@ pub struct NotSuccession;
 
 impl Template for NotSuccession {
     ghost use Rattle.std.proofs.Common.{refl};
-    ghost use Rattle.std.specs.Prelude.{nat_eq, ◌-◌, ◌+◌};
+    ghost use Rattle.std.specs.Prelude.{nat_eq, ◌+◌};
     ghost use Rattle.template_core.specs.Repertoire.{none};
     ghost use Rattle.template_core.specs.declared.kind.Kind.TheVariants.{NotSuccession as the_kind};
     ghost use Rattle.template_core.specs.Tests.{has_later, has_earlier};

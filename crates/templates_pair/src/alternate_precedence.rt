@@ -5,8 +5,7 @@ pub struct AlternatePrecedence;
 
 impl Template for AlternatePrecedence {
     ghost use Rattle.std.proofs.Common.{refl};
-    ghost use Rattle.std.specs.Prelude.{nat_eq, ◌-◌, ◌+◌};
-    ghost use Rattle.template_core.specs.Repertoire.{none};
+    ghost use Rattle.std.specs.Prelude.{nat_eq, ◌-◌};
     ghost use Rattle.template_core.specs.declared.kind.Kind.TheVariants.{AlternatePrecedence as the_kind};
     ghost use Rattle.template_core.proofs.Parts.{each_a, each_alternating_earlier};
     ghost use Rattle.templates_pair.specs.AlternatePrecedence.{next_after, accepts, kept};

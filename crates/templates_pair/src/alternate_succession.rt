@@ -6,7 +6,6 @@ pub struct AlternateSuccession;
 impl Template for AlternateSuccession {
     ghost use Rattle.std.proofs.Common.{refl};
     ghost use Rattle.std.specs.Prelude.{nat_eq, ◌-◌, ◌+◌};
-    ghost use Rattle.template_core.specs.Repertoire.{none};
     ghost use Rattle.template_core.specs.declared.kind.Kind.TheVariants.{AlternateSuccession as the_kind};
     ghost use Rattle.template_core.proofs.Parts.{each_of_both, each_of_alternating};
     ghost use Rattle.template_core.proofs.Runs.{apart};

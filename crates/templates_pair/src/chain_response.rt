@@ -5,8 +5,7 @@ pub struct ChainResponse;
 
 impl Template for ChainResponse {
     ghost use Rattle.std.proofs.Common.{refl};
-    ghost use Rattle.std.specs.Prelude.{nat_eq, ◌-◌, ◌+◌};
-    ghost use Rattle.template_core.specs.Repertoire.{none};
+    ghost use Rattle.std.specs.Prelude.{nat_eq};
     ghost use Rattle.template_core.specs.declared.kind.Kind.TheVariants.{ChainResponse as the_kind};
     ghost use Rattle.template_core.specs.Tests.{has_next};
     ghost use Rattle.template_core.proofs.Parts.{each_a, each_passing};

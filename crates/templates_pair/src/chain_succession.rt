@@ -5,8 +5,7 @@ pub struct ChainSuccession;
 
 impl Template for ChainSuccession {
     ghost use Rattle.std.proofs.Common.{refl};
-    ghost use Rattle.std.specs.Prelude.{nat_eq, ◌-◌, ◌+◌};
-    ghost use Rattle.template_core.specs.Repertoire.{none};
+    ghost use Rattle.std.specs.Prelude.{nat_eq, ◌+◌};
     ghost use Rattle.template_core.specs.declared.kind.Kind.TheVariants.{ChainSuccession as the_kind};
     ghost use Rattle.template_core.specs.Tests.{has_next, has_previous};
     ghost use Rattle.template_core.proofs.Parts.{each_of_both, at_first_sum};

@@ -6,7 +6,6 @@ pub struct CoExistence;
 impl Template for CoExistence {
     ghost use Rattle.std.proofs.Common.{refl};
     ghost use Rattle.std.specs.Prelude.{nat_eq, ◌-◌, ◌+◌};
-    ghost use Rattle.template_core.specs.Repertoire.{none};
     ghost use Rattle.template_core.specs.declared.kind.Kind.TheVariants.{CoExistence as the_kind};
     ghost use Rattle.template_core.specs.Tests.{has};
     ghost use Rattle.template_core.proofs.Parts.{each_of_both, each_of_not_failing};

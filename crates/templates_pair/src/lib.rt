@@ -24,3 +24,6 @@ pub use precedence::Precedence;
 pub use responded_existence::RespondedExistence;
 pub use response::Response;
 pub use succession::Succession;
+
+#[cfg(test)]
+mod tests;

@@ -5,8 +5,7 @@ pub struct Precedence;
 
 impl Template for Precedence {
     ghost use Rattle.std.proofs.Common.{refl};
-    ghost use Rattle.std.specs.Prelude.{nat_eq, ◌-◌, ◌+◌};
-    ghost use Rattle.template_core.specs.Repertoire.{none};
+    ghost use Rattle.std.specs.Prelude.{nat_eq, ◌-◌};
     ghost use Rattle.template_core.specs.declared.kind.Kind.TheVariants.{Precedence as the_kind};
     ghost use Rattle.template_core.specs.Tests.{has_earlier};
     ghost use Rattle.template_core.proofs.Parts.{each_a, each_not_failing};

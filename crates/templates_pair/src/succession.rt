@@ -6,7 +6,6 @@ pub struct Succession;
 impl Template for Succession {
     ghost use Rattle.std.proofs.Common.{refl};
     ghost use Rattle.std.specs.Prelude.{nat_eq, ◌-◌, ◌+◌};
-    ghost use Rattle.template_core.specs.Repertoire.{none};
     ghost use Rattle.template_core.specs.declared.kind.Kind.TheVariants.{Succession as the_kind};
     ghost use Rattle.template_core.specs.Tests.{has_later, has_earlier};
     ghost use Rattle.template_core.proofs.Parts.{each_of_both, each_of_not_failing};

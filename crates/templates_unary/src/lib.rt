@@ -10,3 +10,6 @@ pub use at_most_one::AtMostOne;
 pub use end::End;
 pub use init::Init;
 pub use participation::Participation;
+
+#[cfg(test)]
+mod tests;

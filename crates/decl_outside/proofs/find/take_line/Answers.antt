@@ -1,6 +1,6 @@
 use Rattle.std.proofs.Common.{◌≡◌, ◌<◌, ◌≤◌, length, arith, rules, sym, subst, length-drop, ℕ}
 use Rattle.decl_outside.specs.Held.{held_bytes}
-use Rattle.decl_outside.proofs.Lining.{found_line-between, last_line-between, not_last, line_length-within}
+use Rattle.decl_outside.proofs.Lining.{found_line-between, last_line-between, line_length-within}
 use Rattle.decl_outside.proofs.find.take_line.Goals as goal
 
 pub returns-then-end-rest-clause-line : goal.returns-then-end-rest-clause-line
@@ -9,11 +9,6 @@ returns-then-end-rest-clause-line g c =
     let inside : c.in_ok-end.end < length (held_bytes held) = subst (λ l. c.in_ok-end.end < length l) c.rest.ensures c.if-end-rest.true in
     found_line-between c.args.limit c.in_ok-end.end held.bytes.items held.start (g.I.Inputs.state c.fill.new.inputs).left _ c.in_ok-end.ensures.rest c.in_ok-end.ensures.end c.in_ok-end.ensures.within
     c.text_length.result inside (search rules) (search rules)
-
-pub returns-then-end-rest-clause-last : goal.returns-then-end-rest-clause-last
-returns-then-end-rest-clause-last g c =
-    let inside : c.in_ok-end.end < length (held_bytes c.fill.new.held) = subst (λ l. c.in_ok-end.end < length l) c.rest.ensures c.if-end-rest.true in
-    not_last (held_bytes c.fill.new.held) _ _ c.in_ok-end.ensures.rest (subst (λ n. n < length (held_bytes c.fill.new.held)) c.in_ok-end.ensures.end inside)
 
 -- no line feed is held: the rest is the last line
 all_held : (end count : ℕ) → end ≤ count → count ≤ end → end ≡ count

@@ -1,4 +1,4 @@
-use Rattle.std.proofs.Common.{◌≡◌, arith}
+use Rattle.std.proofs.Common.{arith}
 use Rattle.dfa_minimise.proofs.Widths.{states-from_wide, wide-from_states}
 use Rattle.dfa_minimise.proofs.width.is_wide.Goals as goal
 

@@ -1,6 +1,7 @@
 use Rattle.std.proofs.Common.{◌≡◌, ◌≤◌, ◌-◌, length}
 use Rattle.dfa_core.specs.Automaton.{state_count}
-use Rattle.dfa_minimise.specs.Classes.{IsSound, IsStableBelow}
+use Rattle.dfa_minimise.proofs.Progress.{IsStableBelow}
+use Rattle.dfa_minimise.specs.Classes.{IsSound}
 use Rattle.dfa_minimise.specs.Partitions.{IsTidy}
 use Rattle.dfa_minimise.proofs.Refining.{IsBeingSplit}
 use Rattle.dfa_minimise.proofs.worklist.equivalent_states.Given as goal

@@ -1,6 +1,6 @@
 use Rattle.std.proofs.Common.{◌≡◌, ◌<◌, ◌≤◌, ℕ, List, length, get_or, take, sym, subst, arith}
 use Rattle.std.proofs.lemmas.List.{get_or_read, take_more, take_all}
-use Rattle.dfa_minimise.specs.Partitions.{IsMarkedSoFar, IsCutSoFar}
+use Rattle.dfa_minimise.proofs.Progress.{IsMarkedSoFar, IsCutSoFar}
 use Rattle.dfa_minimise.proofs.Splitting.{marked-more, cut-none, cut-more, tidy-all, cut-all}
 use Rattle.dfa_minimise.proofs.refinable.Refinable.split.Goals as goal
 

@@ -1,5 +1,5 @@
 use Rattle.std.proofs.Common.{take}
-use Rattle.dfa_minimise.specs.Partitions.{IsMarkedSoFar, IsCutSoFar}
+use Rattle.dfa_minimise.proofs.Progress.{IsMarkedSoFar, IsCutSoFar}
 use Rattle.dfa_minimise.proofs.refinable.Refinable.split.Given as goal
 
 abbrev pub invariant-marks : goal.invariant-marks

@@ -1,4 +1,4 @@
-use Rattle.dfa_minimise.specs.Partitions.{IsCounting}
+use Rattle.dfa_minimise.proofs.Progress.{IsCounting}
 use Rattle.dfa_minimise.proofs.refinable.Refinable.whole.Given as goal
 
 abbrev pub invariant-loop-state : goal.invariant-loop-state

@@ -4,8 +4,9 @@ use Rattle.std.proofs.lemmas.Nat.{mul-add-lt}
 use Rattle.std.proofs.Math.Nat.{mul_comm}
 use Rattle.dfa_core.specs.Automaton.{state_count, step}
 use Rattle.dfa_core.proofs.Finding.{pushed}
+use Rattle.dfa_minimise.proofs.Progress.{after}
 use Rattle.dfa_minimise.specs.Partitions.{is_in}
-use Rattle.dfa_minimise.specs.Preimages.{IsGreatest, after}
+use Rattle.dfa_minimise.specs.Preimages.{IsGreatest}
 use Rattle.dfa_minimise.proofs.Splitting.{is_in-push}
 use Rattle.dfa_minimise.proofs.Walking.{walk-none, walk-more, leads-greatest, after_le}
 use Rattle.dfa_minimise.proofs.sources.Sources.leading_to.Goals as goal

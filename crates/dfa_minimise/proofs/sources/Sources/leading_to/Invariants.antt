@@ -1,7 +1,7 @@
 use Rattle.std.proofs.Common.{◌≡◌, ◌<◌, ℕ, length, get_or, take}
 use Rattle.dfa_core.specs.Automaton.{state_count, step}
+use Rattle.dfa_minimise.proofs.Progress.{LeadsTo, after}
 use Rattle.dfa_minimise.specs.Partitions.{is_in}
-use Rattle.dfa_minimise.specs.Preimages.{LeadsTo, after}
 use Rattle.dfa_minimise.proofs.Walking.{visited}
 use Rattle.dfa_minimise.proofs.sources.Sources.leading_to.Given as goal
 

@@ -1,4 +1,4 @@
-use Rattle.dfa_minimise.specs.Preimages.{AreFilled}
+use Rattle.dfa_minimise.proofs.Progress.{AreFilled}
 use Rattle.dfa_minimise.proofs.sources.Sources.of.Given as goal
 
 abbrev pub invariant-states : goal.invariant-states

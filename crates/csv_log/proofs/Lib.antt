@@ -1,0 +1,15 @@
+pub mod Answering
+pub mod Collecting
+pub mod Digits
+pub mod Faults
+pub mod Fields
+pub mod Finishing
+pub mod Firsts
+pub mod Groups
+pub mod Marks
+pub mod Names
+pub mod Orders
+pub mod Reading
+pub mod Rows
+pub mod Sorts
+pub mod Walks

@@ -1,0 +1,5 @@
+pub mod Alphabets
+pub mod Cuts
+pub mod Logging
+pub mod Naming
+pub mod Numbering

@@ -1,0 +1,3 @@
+pub mod Alphabet
+pub mod Log
+pub mod Logs

@@ -1,0 +1,259 @@
+-- A sift that goes on by one candidate.
+use Rattle.std.proofs.Common.{◌≡◌, ◌↔◌, ℕ, zero, suc, ◌+◌, ◌<◌, ◌≤◌, inl, inr, List, [], ◌∷◌, ◌++◌, length, take, refl, sym, ap, ◌∙◌, arith, append_assoc}
+use Rattle.std.proofs.lemmas.Bool.{cases_lt}
+use Rattle.std.proofs.lemmas.List.{append-nil, length_push}
+use Rattle.decl_base.specs.declared.refusal.Refusal.{Refusal}
+use Rattle.decl_base.specs.declared.refusal.Refusal.TheVariants.{States, Memory}
+use Rattle.dfa_core.specs.Automaton.{Accepts, IsEverything, state_count}
+use Rattle.dfa_core.specs.Languages.{HasNoMember, IsLeastMember}
+use Rattle.dfa_core.specs.Shortlex.{IsBefore}
+use Rattle.dfa_core.specs.Traces.{IsTrace}
+use Rattle.dfa_minimise.specs.Wide.{IsWide}
+use Rattle.template_core.specs.declared.constraint.Constraint.{Constraint}
+use Rattle.reduce_model.proofs.Members.{least-same, over-wide, wide-over}
+use Rattle.reduce_model.specs.Joining.{AcceptsKept, IsTooWide, Joins, RefusesJoin}
+use Rattle.reduce_model.specs.Keeping.{KeepsAll, KeepsOne, IsKeepable}
+use Rattle.reduce_model.specs.Sifting.{IsFirstWide, IsKeptAfter, IsSift, IsSifted, RefusesSift, Sifting, kept_of}
+use Rattle.reduce_model.specs.declared.decision.Decision.{Decision}
+use Rattle.reduce_model.specs.declared.decision.Decision.TheVariants.{Kept, Conflict}
+use Rattle.reduce_model.specs.declared.kept.KeptList.{KeptList}
+
+-- ---- a list with one more constraint
+
+push-keeps : (xs : List Constraint) (c : Constraint) (w : List ℕ) → KeepsAll xs w → KeepsOne c w → KeepsAll (xs ++ c ∷ []) w
+push-keeps [] c w all one = (one, tt)
+push-keeps (x ∷ xs) c w all one = (all.0, push-keeps xs c w all.1 one)
+
+keeps-push : (xs : List Constraint) (c : Constraint) (w : List ℕ) → KeepsAll (xs ++ c ∷ []) w → KeepsAll xs w × KeepsOne c w
+keeps-push [] c w all = (tt, all.0)
+keeps-push (x ∷ xs) c w all = let rest = keeps-push xs c w all.1 in ((all.0, rest.0), rest.1)
+
+kept_of-push : (n : ℕ) (kept xs : List Constraint) (ds : List Decision) (c : Constraint) → IsSifted n kept xs ds → kept_of (xs ++ c ∷ []) (ds ++ Kept ∷ []) ≡ kept_of xs ds ++ c ∷ []
+kept_of-push n kept [] [] c h = refl
+kept_of-push n kept [] (d ∷ ds) c h = absurd h
+kept_of-push n kept (x ∷ xs) [] c h = absurd h
+kept_of-push n kept (x ∷ xs) (Kept ∷ ds) c h = ap (λ (l : List Constraint). x ∷ l) (kept_of-push n (kept ++ x ∷ []) xs ds c h.1)
+kept_of-push n kept (x ∷ xs) (Conflict ∷ ds) c h = kept_of-push n kept xs ds c h.1
+kept_of-push n kept (x ∷ xs) (d ∷ ds) c h = absurd h
+
+kept_of-conflict : (n : ℕ) (kept xs : List Constraint) (ds : List Decision) (c : Constraint) → IsSifted n kept xs ds → kept_of (xs ++ c ∷ []) (ds ++ Conflict ∷ []) ≡ kept_of xs ds
+kept_of-conflict n kept [] [] c h = refl
+kept_of-conflict n kept [] (d ∷ ds) c h = absurd h
+kept_of-conflict n kept (x ∷ xs) [] c h = absurd h
+kept_of-conflict n kept (x ∷ xs) (Kept ∷ ds) c h = ap (λ (l : List Constraint). x ∷ l) (kept_of-conflict n (kept ++ x ∷ []) xs ds c h.1)
+kept_of-conflict n kept (x ∷ xs) (Conflict ∷ ds) c h = kept_of-conflict n kept xs ds c h.1
+kept_of-conflict n kept (x ∷ xs) (d ∷ ds) c h = absurd h
+
+sifted-push : (n : ℕ) (kept xs : List Constraint) (ds : List Decision) (c : Constraint) → IsSifted n kept xs ds → IsKeepable n ((kept ++ kept_of xs ds) ++ c ∷ []) → IsSifted n kept (xs ++ c ∷ []) (ds ++ Kept ∷ [])
+sifted-push n kept [] [] c h joins = let more : IsKeepable n (kept ++ c ∷ []) = rw (append-nil kept) at joins in (more, tt)
+sifted-push n kept [] (d ∷ ds) c h joins = absurd h
+sifted-push n kept (x ∷ xs) [] c h joins = absurd h
+sifted-push n kept (x ∷ xs) (Kept ∷ ds) c h joins = (h.0, sifted-push n (kept ++ x ∷ []) xs ds c h.1 (rw (append_assoc kept (x ∷ []) (kept_of xs ds)) joins))
+sifted-push n kept (x ∷ xs) (Conflict ∷ ds) c h joins = (h.0, sifted-push n kept xs ds c h.1 joins)
+sifted-push n kept (x ∷ xs) (d ∷ ds) c h joins = absurd h
+
+sifted-conflict : (n : ℕ) (kept xs : List Constraint) (ds : List Decision) (c : Constraint) → IsSifted n kept xs ds → HasNoMember n (KeepsAll ((kept ++ kept_of xs ds) ++ c ∷ []))
+    → IsSifted n kept (xs ++ c ∷ []) (ds ++ Conflict ∷ [])
+sifted-conflict n kept [] [] c h none = let no : HasNoMember n (KeepsAll (kept ++ c ∷ [])) = rw (append-nil kept) at none in (no, tt)
+sifted-conflict n kept [] (d ∷ ds) c h none = absurd h
+sifted-conflict n kept (x ∷ xs) [] c h none = absurd h
+sifted-conflict n kept (x ∷ xs) (Kept ∷ ds) c h none = (h.0, sifted-conflict n (kept ++ x ∷ []) xs ds c h.1 (rw (append_assoc kept (x ∷ []) (kept_of xs ds)) none))
+sifted-conflict n kept (x ∷ xs) (Conflict ∷ ds) c h none = (h.0, sifted-conflict n kept xs ds c h.1 none)
+sifted-conflict n kept (x ∷ xs) (d ∷ ds) c h none = absurd h
+
+-- a sift has one list of marks
+pub sifted_unique : (n : ℕ) (kept xs : List Constraint) (ds es : List Decision) → IsSifted n kept xs ds → IsSifted n kept xs es → ds ≡ es
+sifted_unique n kept [] [] [] h g = refl
+sifted_unique n kept [] [] (e ∷ es) h g = absurd g
+sifted_unique n kept [] (d ∷ ds) es h g = absurd h
+sifted_unique n kept (x ∷ xs) [] es h g = absurd h
+sifted_unique n kept (x ∷ xs) (d ∷ ds) [] h g = absurd g
+sifted_unique n kept (x ∷ xs) (Kept ∷ ds) (Kept ∷ es) h g = ap (λ (l : List Decision). Kept ∷ l) (sifted_unique n (kept ++ x ∷ []) xs ds es h.1 g.1)
+sifted_unique n kept (x ∷ xs) (Kept ∷ ds) (Conflict ∷ es) h g = absurd (g.0 h.0.by h.0.over h.0.keeps)
+sifted_unique n kept (x ∷ xs) (Kept ∷ ds) (e ∷ es) h g = absurd g
+sifted_unique n kept (x ∷ xs) (Conflict ∷ ds) (Kept ∷ es) h g = absurd (h.0 g.0.by g.0.over g.0.keeps)
+sifted_unique n kept (x ∷ xs) (Conflict ∷ ds) (Conflict ∷ es) h g = ap (λ (l : List Decision). Conflict ∷ l) (sifted_unique n kept xs ds es h.1 g.1)
+sifted_unique n kept (x ∷ xs) (Conflict ∷ ds) (e ∷ es) h g = absurd g
+sifted_unique n kept (x ∷ xs) (d ∷ ds) (e ∷ es) h g = absurd h
+
+-- ---- what is carried of a kept list
+
+-- an automaton of the traces that keep the list, its length, and the least such trace
+pub record IsCarried (n s : ℕ) (kept : List Constraint) (carried : KeptList) : Type 0 where
+  pub over : carried.dfa.symbols ≡ n
+  pub same : (w : List ℕ) → IsTrace n w → Accepts carried.dfa w ↔ KeepsAll kept w
+  pub few : state_count carried.dfa ≤ s
+  pub carried_length : carried.length ≡ length kept
+  pub example : IsLeastMember n (KeepsAll kept) carried.example
+
+-- with a candidate more
+same-more : (n s : ℕ) (kept : List Constraint) (carried : KeptList) (c : Constraint) → IsCarried n s kept carried
+    → (w : List ℕ) → IsTrace n w → AcceptsKept carried.dfa c w ↔ KeepsAll (kept ++ c ∷ []) w
+same-more n s kept carried c h w tw = (
+  λ p. push-keeps kept c w ((h.same w tw).0 p.0) p.1,
+  λ all. let parts = keeps-push kept c w all in ((h.same w tw).1 parts.0, parts.1),
+)
+
+carried-more : (n s : ℕ) (kept : List Constraint) (old new : KeptList) (c : Constraint) → IsCarried n s kept old → Joins s old c new → IsCarried n s (kept ++ c ∷ []) new
+carried-more n s kept old new c h joins = record {
+  over = joins.narrowed.over ∙ h.over;
+  same = λ w tw.
+      let more = same-more n s kept old c h w tw in
+      let narrowed = joins.narrowed.same w (rw h.over tw) in (λ is. more.0 (narrowed.0 is), λ all. narrowed.1 (more.1 all));
+  few = joins.few;
+  carried_length = joins.new_length ∙ (ap (λ (k : ℕ). k + 1) h.carried_length ∙ sym (length_push kept c));
+  example = least-same old.dfa.symbols n (AcceptsKept old.dfa c) (KeepsAll (kept ++ c ∷ [])) new.example h.over (same-more n s kept old c h) joins.example;
+}
+
+-- ---- the sift of so many candidates, with no kept list so far that is wide
+
+pub record IsSiftedSoFar (n s : ℕ) (list : List Constraint) (at : ℕ) (carried : KeptList) (decisions : List Decision) : Type 0 where
+  pub sifted : IsSifted n [] (take at list) decisions
+  pub carried_of : IsCarried n s (kept_of (take at list) decisions) carried
+  pub narrow : (count : ℕ) (kept : List Constraint) → count ≤ at → IsKeptAfter n list count kept → IsWide n (KeepsAll kept) s → ⊥
+
+no_before_nil : (w : List ℕ) → IsBefore w [] → ⊥
+no_before_nil w (inl lt) = omega (arith, lt)
+no_before_nil [] (inr p) = p.1
+no_before_nil (x ∷ w) (inr p) = p.1
+
+-- the empty list tells nothing apart
+empty-narrow : (n s : ℕ) → 1 ≤ s → IsWide n (KeepsAll []) s → ⊥
+empty-narrow n s some wide = let t = wide.apart 0 1 (omega arith) some in t.differs (λ is. tt, λ is. tt)
+
+pub so_far-none : (n s : ℕ) (list : List Constraint) (carried : KeptList) (decisions : List Decision) → 1 ≤ s → IsEverything n carried.dfa → carried.length ≡ 0 → carried.example ≡ [] → decisions ≡ []
+    → IsSiftedSoFar n s list 0 carried decisions
+so_far-none n s list carried decisions some every none empty unmarked = rw unmarked (record {
+  sifted = tt;
+  carried_of = record {
+    over = every.over;
+    same = λ w tw. (λ is. tt, λ all. every.accepts_all w tw);
+    few = omega (arith, every.one_state);
+    carried_length = none;
+    example = rw empty (record {
+      over = tt;
+      member = tt;
+      none_before = λ w tw is before. no_before_nil w before;
+    });
+  };
+  narrow = λ count kept le after wide.
+      let z : count ≡ 0 = omega arith in
+      let sifted : IsSifted n [] [] after.decisions = rw z at after.sifted in
+      let is : kept_of [] after.decisions ≡ kept = rw z at after.is in
+      empty-narrow n s some (rw is wide);
+})
+
+-- the kept list after as many candidates is the one that is known
+after-known : (n : ℕ) (list : List Constraint) (count at : ℕ) (kept : List Constraint) (ds : List Decision) → count ≡ at → IsKeptAfter n list count kept → IsSifted n [] (take at list) ds → kept_of (take at list) ds ≡ kept
+after-known n list count at kept ds e after sifted =
+    let theirs : IsSifted n [] (take at list) after.decisions = rw e at after.sifted in
+    let is : kept_of (take at list) after.decisions ≡ kept = rw e at after.is in
+    ap (kept_of (take at list)) (sifted_unique n [] (take at list) ds after.decisions sifted theirs) ∙ is
+
+pub so_far-kept : (n s : ℕ) (list : List Constraint) (at : ℕ) (old new : KeptList) (ds : List Decision) (c : Constraint) → take (at + 1) list ≡ take at list ++ c ∷ []
+    → IsSiftedSoFar n s list at old ds → Joins s old c new → IsSiftedSoFar n s list (at + 1) new (ds ++ Kept ∷ [])
+so_far-kept n s list at old new ds c more h joins =
+    let front = take at list in
+    let kept = kept_of front ds in
+    let carried = carried-more n s kept old new c h.carried_of joins in
+    let grown : kept_of (front ++ c ∷ []) (ds ++ Kept ∷ []) ≡ kept ++ c ∷ [] = kept_of-push n [] front ds c h.sifted in
+    let keepable : IsKeepable n (kept ++ c ∷ []) = record {
+      by = new.example;
+      over = carried.example.over;
+      keeps = carried.example.member;
+    } in
+    let sifted : IsSifted n [] (take (at + 1) list) (ds ++ Kept ∷ []) = rw more (sifted-push n [] front ds c h.sifted keepable) in
+    let known : kept_of (take (at + 1) list) (ds ++ Kept ∷ []) ≡ kept ++ c ∷ [] = rw more grown in
+    record {
+      sifted = sifted;
+      carried_of = rw known carried;
+      narrow = λ count other le after wide. elim (cases_lt at count) [
+        | inl new_ ↦
+            let same : count ≡ at + 1 = omega arith in
+            let is : kept ++ c ∷ [] ≡ other = sym known ∙ after-known n list count (at + 1) other (ds ++ Kept ∷ []) same after sifted in
+            joins.narrow (wide-over old.dfa.symbols n s (AcceptsKept old.dfa c) (KeepsAll (kept ++ c ∷ [])) h.carried_of.over (same-more n s kept old c h.carried_of) (rw is wide))
+        | inr old_ ↦ h.narrow count other old_ after wide
+      ];
+    }
+
+pub so_far-conflict : (n s : ℕ) (list : List Constraint) (at : ℕ) (old : KeptList) (ds : List Decision) (c : Constraint) → take (at + 1) list ≡ take at list ++ c ∷ []
+    → at < length list → IsSiftedSoFar n s list at old ds → HasNoMember old.dfa.symbols (AcceptsKept old.dfa c) → IsSiftedSoFar n s list (at + 1) old (ds ++ Conflict ∷ [])
+so_far-conflict n s list at old ds c more lt h none =
+    let front = take at list in
+    let kept = kept_of front ds in
+    let no : HasNoMember n (KeepsAll (kept ++ c ∷ [])) = λ w tw all. none w (rw h.carried_of.over tw) ((same-more n s kept old c h.carried_of w tw).1 all) in
+    let sifted : IsSifted n [] (take (at + 1) list) (ds ++ Conflict ∷ []) = rw more (sifted-conflict n [] front ds c h.sifted no) in
+    let known : kept_of (take (at + 1) list) (ds ++ Conflict ∷ []) ≡ kept = rw more (kept_of-conflict n [] front ds c h.sifted) in
+    record {
+      sifted = sifted;
+      carried_of = rw known h.carried_of;
+      narrow = λ count other le after wide. elim (cases_lt at count) [
+        | inl new_ ↦
+            let same : count ≡ at + 1 = omega arith in
+            let is : kept ≡ other = sym known ∙ after-known n list count (at + 1) other (ds ++ Conflict ∷ []) same after sifted in
+            h.narrow at other (omega arith) (record {
+              within = omega arith;
+              decisions = ds;
+              sifted = h.sifted;
+              is = is;
+            }) wide
+        | inr old_ ↦ h.narrow count other old_ after wide
+      ];
+    }
+
+pub so_far-refused : (n s : ℕ) (list : List Constraint) (at : ℕ) (old : KeptList) (ds : List Decision) (c : Constraint) (built : ℕ) → take (at + 1) list ≡ take at list ++ c ∷ []
+    → at < length list → IsSiftedSoFar n s list at old ds → IsTooWide s old c built → IsFirstWide n s list built
+so_far-refused n s list at old ds c built more lt h too =
+    let front = take at list in
+    let kept = kept_of front ds in
+    let least = least-same old.dfa.symbols n (AcceptsKept old.dfa c) (KeepsAll (kept ++ c ∷ [])) too.by h.carried_of.over (same-more n s kept old c h.carried_of) too.example in
+    let keepable : IsKeepable n (kept ++ c ∷ []) = record {
+      by = too.by;
+      over = least.over;
+      keeps = least.member;
+    } in
+    record {
+      count = at + 1;
+      kept = kept ++ c ∷ [];
+      after = record {
+        within = omega arith;
+        decisions = ds ++ Kept ∷ [];
+        sifted = rw more (sifted-push n [] front ds c h.sifted keepable);
+        is = rw more (kept_of-push n [] front ds c h.sifted);
+      };
+      wide = over-wide old.dfa.symbols n s (AcceptsKept old.dfa c) (KeepsAll (kept ++ c ∷ [])) h.carried_of.over (same-more n s kept old c h.carried_of) too.wide;
+      built_length = length_push kept c ∙ (ap (λ (k : ℕ). k + 1) (sym h.carried_of.carried_length) ∙ sym too.built_length);
+      first = λ earlier before less after wide. h.narrow earlier before (omega arith) after wide;
+    }
+
+pub so_far-all : (n s : ℕ) (list : List Constraint) (at : ℕ) (carried : KeptList) (sifting : Sifting) → take at list ≡ list → length list ≤ at → carried.example ≡ sifting.example
+    → IsSiftedSoFar n s list at carried sifting.decisions → IsSift n s list sifting
+so_far-all n s list at carried sifting whole past same h = record {
+  sifted = rw whole at h.sifted;
+  example = let least : IsLeastMember n (KeepsAll (kept_of list sifting.decisions)) carried.example = rw whole at h.carried_of.example in rw (← same) least;
+  narrow = λ count kept after wide. let within = after.within in h.narrow count kept (omega (arith, within, past)) after wide;
+}
+
+pub refused : (n s : ℕ) (list : List Constraint) (at : ℕ) (old : KeptList) (ds : List Decision) (c : Constraint) (refusal : Refusal) → take (at + 1) list ≡ take at list ++ c ∷ []
+    → at < length list → IsSiftedSoFar n s list at old ds → RefusesJoin s old c refusal → RefusesSift n s list refusal
+refused n s list at old ds c (States phase built) more lt h is = (is.0, so_far-refused n s list at old ds c built more lt h is.1)
+refused n s list at old ds c Memory more lt h is = tt
+refused n s list at old ds c refusal more lt h is = absurd is
+
+length-kept_of : (list : List Constraint) (ds : List Decision) → length (kept_of list ds) ≤ length list
+length-kept_of [] ds = omega arith
+length-kept_of (c ∷ list) [] = omega arith
+length-kept_of (c ∷ list) (Kept ∷ ds) = let ih = length-kept_of list ds in omega (arith, ih)
+length-kept_of (c ∷ list) (d ∷ ds) = let ih = length-kept_of list ds in omega (arith, ih)
+
+length-take_le : (count : ℕ) (list : List Constraint) → length (take count list) ≤ length list
+length-take_le zero list = omega arith
+length-take_le (suc count) [] = omega arith
+length-take_le (suc count) (c ∷ list) = let ih = length-take_le count list in omega (arith, ih)
+
+pub so_far-length : (n s : ℕ) (list : List Constraint) (at : ℕ) (carried : KeptList) (ds : List Decision) → IsSiftedSoFar n s list at carried ds → carried.length ≤ length list
+so_far-length n s list at carried ds h =
+    let long = h.carried_of.carried_length in
+    let kept = length-kept_of (take at list) ds in
+    let front = length-take_le at list in
+    omega (arith, long, kept, front)

@@ -1,0 +1,48 @@
+ghost use Rattle.std.specs.Prelude.{◌≤◌, length, All, IfOk, IfErr};
+ghost use Rattle.template_core.specs.Constraints.{IsWellMadeFor};
+ghost use Rattle.reduce_model.specs.Sifting.{IsSift, RefusesSift};
+
+use crate::kept::KeptList;
+use crate::{Decision, Sifted};
+use decl_base::{Refusal, Trace};
+use dfa_core::Dfa;
+use std::alloc::Global;
+use template_core::Constraint;
+
+/// Goes through the candidates in their order. One joins the kept list where some trace over the symbols keeps that list and it.
+/// Refused where a kept list, as it arises, tells more traces apart than `states`.
+pub fn sift(
+    alloc: Global,
+    list: &[Constraint],
+    symbols: u32,
+    states: u64,
+) -> Result<Sifted, Refusal>
+    requires made { All (IsWellMadeFor symbols) list.now }
+    requires few { length list.now ≤ 65536 }
+    requires some_states { 1 ≤ states }
+    requires few_states { states ≤ 65536 }
+    ensures ok { IfOk result (IsSift symbols states list.now) }
+    ensures err { IfErr result (RefusesSift symbols states list.now) }
+{
+    let mut kept = KeptList {
+        dfa: Dfa::everything(alloc, symbols)?,
+        length: 0,
+        example: Trace::of(alloc, &[])?,
+    };
+    let mut decisions = Vec::new(alloc);
+    for candidate in list {
+        match kept.joined(alloc, candidate, states)? {
+            Some(joined) => {
+                kept = joined;
+                decisions.push(Decision::Kept)?;
+            }
+            None => decisions.push(Decision::Conflict)?,
+        }
+    }
+    let KeptList {
+        dfa: _,
+        length: _,
+        example,
+    } = kept;
+    Ok(Sifted { decisions, example })
+}

@@ -1,0 +1,50 @@
+ghost use Rattle.std.specs.Prelude.{◌≡◌};
+
+use decl_base::Trace;
+use std::marker::Model;
+
+/// What becomes of a candidate.
+#[derive(Clone, Copy, Debug, PartialEq, Eq)]
+pub enum Decision {
+    /// It stays.
+    Kept,
+    /// No trace keeps it and all that were kept before it.
+    Conflict,
+    /// A kept constraint is above it in the hierarchy: the one at this place of the list, from 0.
+    Weaker { by: u32 },
+    /// Those that were kept before it imply it.
+    FirstPass,
+    /// All the others that stay imply it.
+    SecondPass,
+}
+
+/// A list of candidates gone through: a decision for each, and the least trace that keeps all that stay.
+#[derive(Debug, Drop)]
+pub struct Sifted {
+    pub(crate) decisions: Vec<Decision>,
+    pub(crate) example: Trace,
+}
+
+impl Model for Sifted {
+    ghost use Rattle.reduce_model.specs.Sifting.{Sifting};
+
+    ghost Value = { Sifting };
+
+    ghost view = { λ s. record { decisions = s.decisions.items; example = s.example } };
+}
+
+impl Sifted {
+    /// The decisions, in the order of the candidates.
+    pub fn decisions(&self) -> &[Decision]
+        ensures { result.now ≡ self.now.decisions }
+    {
+        &self.decisions
+    }
+
+    /// The least trace in shortlex order that keeps all constraints that stay.
+    pub fn example(&self) -> &Trace
+        ensures { result.now ≡ self.now.example }
+    {
+        &self.example
+    }
+}

@@ -1,0 +1,10 @@
+pub mod Renaming
+pub mod Orders
+pub mod Priorities
+pub mod Numbers
+pub mod Listing
+pub mod Members
+pub mod Reaching
+pub mod Counting
+pub mod Finding
+pub mod Ranking

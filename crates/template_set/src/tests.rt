@@ -1,0 +1,81 @@
+ghost use Rattle.std.specs.Prelude.{◌<◌};
+ghost use Rattle.template_core.specs.Tables.{IsTable};
+
+use crate::{arity, kind_of, kinds, name, table_of};
+use template_core::{Class, Kind, Table};
+
+/// Whether the table accepts the word whose classes are the digits of a number to the base three, from the least one on.
+fn accepts(table: &Table, number: u32, length: u32) -> bool
+    requires { IsTable table.now }
+{
+    let mut state = table.start;
+    let mut rest = number;
+    for _ in 0..length {
+        let class = match rest % 3 {
+            0 => Class::First,
+            1 => Class::Second,
+            _ => Class::Other,
+        };
+        state = table.step(state, class);
+        rest /= 3;
+    }
+    table.accepts_at(state)
+}
+
+/// The words of up to five classes that a template's table accepts: how many, and the sum of their numbers.
+fn accepted(kind: Kind) -> (u32, u32) {
+    let table = table_of(kind);
+    let mut count: u32 = 0;
+    let mut sum: u32 = 0;
+    for (length, words) in [(0, 1), (1, 3), (2, 9), (3, 27), (4, 81), (5, 243)] {
+        for number in 0..words {
+            if accepts(&table, number, length) {
+                count = count.wrapping_add(1);
+                sum = sum.wrapping_add(number);
+            }
+        }
+    }
+    (count, sum)
+}
+
+/// Against all words of up to five events that keep the template, by the definition.
+#[test]
+fn tables_accept_the_words_that_keep(rt: HostRuntime) {
+    for (kind, count, sum) in [
+        (Kind::Init, 121, 10890),
+        (Kind::End, 121, 3630),
+        (Kind::Participation, 301, 26082),
+        (Kind::AtMostOne, 192, 20175),
+        (Kind::ChainSuccession, 20, 1752),
+        (Kind::AlternateSuccession, 32, 3278),
+        (Kind::Succession, 88, 9787),
+        (Kind::CoExistence, 250, 22164),
+        (Kind::ChainResponse, 119, 13131),
+        (Kind::AlternateResponse, 144, 16392),
+        (Kind::Response, 185, 20847),
+        (Kind::ChainPrecedence, 119, 9281),
+        (Kind::AlternatePrecedence, 144, 12044),
+        (Kind::Precedence, 185, 16422),
+        (Kind::RespondedExistence, 307, 28757),
+        (Kind::NotCoExistence, 120, 11227),
+        (Kind::NotSuccession, 192, 16314),
+        (Kind::NotChainSuccession, 232, 20928),
+    ] {
+        assert_eq!(rt; accepted(kind), (count, sum), "{kind:?}");
+    }
+}
+
+#[test]
+fn names_and_arities(rt: HostRuntime) {
+    let mut two: u32 = 0;
+    for kind in kinds() {
+        assert_eq!(rt; kind_of(name(kind)), Some(kind));
+        if arity(kind) == 2 {
+            two = two.wrapping_add(1);
+        }
+    }
+    assert_eq!(rt; two, 14);
+    for text in ["participation", "Response ", "", "AtLeast2"] {
+        assert_eq!(rt; kind_of(text), None, "{text}");
+    }
+}

@@ -8,7 +8,7 @@ use Rattle.decl_base.specs.declared.refusal.Refusal.{Refusal}
 use Rattle.decl_base.specs.declared.refusal.Refusal.TheVariants as refusal
 use Rattle.event_log.specs.Alphabet.{Names, AddCause}
 use Rattle.event_log.specs.Log.{Traces}
-use Rattle.event_log.specs.Logs.{place_of, has_name, named, with_name, first_seen}
+use Rattle.event_log.specs.Logs.{place_of, has_name, named, with_name, first_seen, IsNumbering}
 use Rattle.log_columns.specs.declared.Columns.{Columns}
 use Rattle.log_columns.specs.declared.OrderAs.{OrderAs}
 use Rattle.log_columns.specs.declared.OrderAs.TheVariants as by
@@ -16,7 +16,7 @@ use Rattle.csv_log.specs.declared.collect.Collected.{Collected}
 use Rattle.csv_log.specs.declared.kept.Kept.{Kept}
 use Rattle.csv_log.specs.declared.places.Places.{Places}
 use Rattle.csv_log.specs.declared.row.Fields.{Fields}
-use Rattle.csv_log.specs.CsvLog.{Event, IsNumbering, IsWithin, log_of}
+use Rattle.csv_log.specs.CsvLog.{Event, IsWithin, log_of}
 use Rattle.csv_log.specs.Number.{number_of}
 
 -- the places of the wanted columns in a header

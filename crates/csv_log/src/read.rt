@@ -1,6 +1,6 @@
 ghost use Rattle.std.specs.Prelude.{◌≡◌, ◌<◌, ◌^◌, List, IfOk, IfErr, Ok};
-ghost use Rattle.event_log.specs.Logs.{named};
-ghost use Rattle.csv_log.specs.CsvLog.{activities_of, csv_log, CsvCause, Event, IsNumbering, IsWithin};
+ghost use Rattle.event_log.specs.Logs.{named, IsNumbering};
+ghost use Rattle.csv_log.specs.CsvLog.{activities_of, csv_log, CsvCause, Event, IsWithin};
 ghost use Rattle.csv_log.specs.Kept.{Collects, IsLogOf};
 
 use crate::Columns;

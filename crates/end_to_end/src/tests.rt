@@ -1,0 +1,207 @@
+//! Words and inputs in memory, and what stands on the two sinks then. Each text was worked out from the definitions,
+//! and not by this program.
+use decl_base::{Name, Status};
+use decl_outside::{MemInputs, MemSink};
+use minerful_core::run;
+use std::alloc::Global;
+use std::test::Fail;
+
+const ROOM: u64 = 4096;
+
+const STRICT: &str = "mine --stage scores --support 1 --confidence 1 --interest 1";
+
+const HALF: &str = "mine --stage consistent --support 0.5 --confidence 0 --interest 0";
+
+/// What a run gave.
+#[derive(Drop)]
+struct Ran {
+    status: Status,
+    out: MemSink,
+    err: MemSink,
+}
+
+/// Which calls of the inputs and of the two sinks fail, and how many bytes a call moves.
+#[derive(Clone, Copy)]
+struct Outside<'a> {
+    reads: &'a [u64],
+    writes: &'a [u64],
+    lines: &'a [u64],
+    piece: u64,
+}
+
+const CALM: Outside<'static> = Outside {
+    reads: &[],
+    writes: &[],
+    lines: &[],
+    piece: 10,
+};
+
+/// Runs the words, parted by spaces, with these bytes as standard input.
+fn run_with(alloc: Global, words: &str, bytes: &[u8], outside: Outside) -> Result<Ran, Fail> {
+    let mut list = Vec::new(alloc);
+    for word in words.split_ascii_whitespace() {
+        list.push(String::from_str(alloc, word)?)?;
+    }
+    let mut inputs = MemInputs::new(alloc, outside.piece, outside.reads.to_vec(alloc)?);
+    inputs.put(Name::of(alloc, "-")?, bytes.to_vec(alloc)?)?;
+    let mut out = MemSink::new(alloc, ROOM, outside.piece, outside.writes.to_vec(alloc)?)?;
+    let mut err = MemSink::new(alloc, ROOM, outside.piece, outside.lines.to_vec(alloc)?)?;
+    let status = run(alloc, &list, &mut inputs, &mut out, &mut err);
+    Ok(Ran { status, out, err })
+}
+
+#[test]
+fn reports_are_printed(rt: HostRuntime) -> Result<(), Fail> {
+    let cases = [
+        (
+            "mine",
+            "",
+            "{\"constraints\":[],\"events\":0,\"tasks\":[],\"traces\":0}\n",
+        ),
+        (
+            "mine",
+            "\n",
+            "{\"constraints\":[],\"events\":0,\"tasks\":[],\"traces\":1}\n",
+        ),
+        (
+            STRICT,
+            "é\n",
+            "{\"constraints\":[{\"confidence\":[1,1],\"interest\":[1,1],\"parameters\":[[\"é\"]],\"support\":[1,1],\"template\":\"Init\"},{\"confidence\":[1,1],\"interest\":[1,1],\"parameters\":[[\"é\"]],\"support\":[1,1],\"template\":\"End\"},{\"confidence\":[1,1],\"interest\":[1,1],\"parameters\":[[\"é\"]],\"support\":[1,1],\"template\":\"Participation\"},{\"confidence\":[1,1],\"interest\":[1,1],\"parameters\":[[\"é\"]],\"support\":[1,1],\"template\":\"AtMostOne\"}],\"events\":1,\"tasks\":[\"é\"],\"traces\":1}\n",
+        ),
+        (
+            STRICT,
+            "\u{1}\n\"\n\\\né\n😀\n",
+            "{\"constraints\":[],\"events\":5,\"tasks\":[\"\\u0001\",\"\\\"\",\"\\\\\",\"é\",\"😀\"],\"traces\":5}\n",
+        ),
+        (
+            HALF,
+            "a\nb\n",
+            "{\"constraints\":[{\"confidence\":[1,1],\"interest\":[1,2],\"parameters\":[[\"a\"]],\"support\":[1,1],\"template\":\"AtMostOne\"},{\"confidence\":[1,1],\"interest\":[1,2],\"parameters\":[[\"b\"]],\"support\":[1,1],\"template\":\"AtMostOne\"},{\"confidence\":[1,1],\"interest\":[1,2],\"parameters\":[[\"a\"],[\"b\"]],\"support\":[1,1],\"template\":\"NotCoExistence\"},{\"confidence\":[1,1],\"interest\":[1,2],\"parameters\":[[\"a\"],[\"b\"]],\"support\":[1,1],\"template\":\"NotSuccession\"},{\"confidence\":[1,1],\"interest\":[1,2],\"parameters\":[[\"b\"],[\"a\"]],\"support\":[1,1],\"template\":\"NotSuccession\"},{\"confidence\":[1,1],\"interest\":[1,2],\"parameters\":[[\"a\"],[\"b\"]],\"support\":[1,1],\"template\":\"NotChainSuccession\"},{\"confidence\":[1,1],\"interest\":[1,2],\"parameters\":[[\"b\"],[\"a\"]],\"support\":[1,1],\"template\":\"NotChainSuccession\"},{\"confidence\":[1,2],\"interest\":[1,4],\"parameters\":[[\"a\"]],\"support\":[1,2],\"template\":\"Init\"},{\"confidence\":[1,2],\"interest\":[1,4],\"parameters\":[[\"a\"]],\"support\":[1,2],\"template\":\"End\"},{\"confidence\":[1,2],\"interest\":[1,4],\"parameters\":[[\"a\"]],\"support\":[1,2],\"template\":\"Participation\"}],\"dropped\":[{\"confidence\":[1,2],\"interest\":[1,4],\"parameters\":[[\"b\"]],\"support\":[1,2],\"template\":\"Init\",\"why\":\"conflict\"},{\"confidence\":[1,2],\"interest\":[1,4],\"parameters\":[[\"b\"]],\"support\":[1,2],\"template\":\"End\",\"why\":\"conflict\"},{\"confidence\":[1,2],\"interest\":[1,4],\"parameters\":[[\"b\"]],\"support\":[1,2],\"template\":\"Participation\",\"why\":\"conflict\"}],\"events\":2,\"example\":[\"a\"],\"tasks\":[\"a\",\"b\"],\"traces\":2}\n",
+        ),
+        (
+            "kb",
+            "ab\n",
+            "traces 1\n occurrences       traces     repeated        first         last activity\n           1            1            0            1            0 \"a\"\n           1            1            0            0            1 \"b\"\n     without     no_later   no_earlier         next     previous    rep_later  rep_earlier     together pair\n           0            0            1            1            0            0            0            1 \"a\" \"b\"\n           0            1            0            0            1            0            0            1 \"b\" \"a\"\n",
+        ),
+        (
+            "kb",
+            "",
+            "traces 0\n occurrences       traces     repeated        first         last activity\n     without     no_later   no_earlier         next     previous    rep_later  rep_earlier     together pair\n",
+        ),
+        (
+            "mine --support 1 --confidence 1 --interest 1 --format csv",
+            "case,activity\n1,a\n",
+            "{\"constraints\":[{\"confidence\":[1,1],\"interest\":[1,1],\"parameters\":[[\"a\"]],\"support\":[1,1],\"template\":\"Init\"},{\"confidence\":[1,1],\"interest\":[1,1],\"parameters\":[[\"a\"]],\"support\":[1,1],\"template\":\"End\"},{\"confidence\":[1,1],\"interest\":[1,1],\"parameters\":[[\"a\"]],\"support\":[1,1],\"template\":\"Participation\"},{\"confidence\":[1,1],\"interest\":[1,1],\"parameters\":[[\"a\"]],\"support\":[1,1],\"template\":\"AtMostOne\"}],\"events\":1,\"tasks\":[\"a\"],\"traces\":1}\n",
+        ),
+    ];
+    for (words, bytes, want) in cases {
+        let ran = run_with(rt.alloc(), words, bytes.as_bytes(), CALM)?;
+        assert_eq!(rt; ran.status, Status::Done);
+        assert_eq!(rt; ran.out.bytes(), want.as_bytes());
+        assert!(rt; ran.err.bytes().is_empty());
+    }
+    Ok(())
+}
+
+#[test]
+fn refusals_are_told(rt: HostRuntime) -> Result<(), Fail> {
+    let cases: [(&str, &[u8], Status, &str); 8] = [
+        ("", b"", Status::Usage, "minerful: usage, place 0\n"),
+        (
+            "mine --nosuch",
+            b"",
+            Status::Usage,
+            "minerful: usage, place 1\n",
+        ),
+        (
+            "mine --support 1.1",
+            b"",
+            Status::Usage,
+            "minerful: usage, place 7\n",
+        ),
+        (
+            "mine --out x --format y",
+            b"",
+            Status::Usage,
+            "minerful: usage, place 2\n",
+        ),
+        (
+            "mine",
+            b"ab\n\xff\n",
+            Status::BadLog,
+            "minerful: line 2 is not UTF-8\n",
+        ),
+        (
+            "kb --format csv",
+            b"case,activity\n1,a\n2\n",
+            Status::BadLog,
+            "minerful: record 3 is too short\n",
+        ),
+        (
+            "mine --stage consistent --max-states 3",
+            b"ab\nab\n",
+            Status::Limit,
+            "minerful: too many states, phase 1, constraints 2\n",
+        ),
+        (
+            "mine nosuch",
+            b"ab\n",
+            Status::ReadFault,
+            "minerful: read fault\n",
+        ),
+    ];
+    for (words, bytes, status, line) in cases {
+        let ran = run_with(rt.alloc(), words, bytes, CALM)?;
+        assert_eq!(rt; ran.status, status);
+        assert!(rt; ran.out.bytes().is_empty());
+        assert_eq!(rt; ran.err.bytes(), line.as_bytes());
+    }
+    Ok(())
+}
+
+#[test]
+fn faults_are_told(rt: HostRuntime) -> Result<(), Fail> {
+    let broken = Outside {
+        writes: &[2],
+        ..CALM
+    };
+    let ran = run_with(rt.alloc(), "mine", b"", broken)?;
+    assert_eq!(rt; ran.status, Status::WriteFault);
+    assert_eq!(rt; ran.out.bytes(), b"{\"constrai".as_slice());
+    assert_eq!(rt; ran.err.bytes(), b"minerful: write fault\n".as_slice());
+    for failing in 1..4 {
+        let unread = Outside {
+            reads: &[failing],
+            piece: 1,
+            ..CALM
+        };
+        let ran = run_with(rt.alloc(), "mine", b"ab\n", unread)?;
+        assert_eq!(rt; ran.status, Status::ReadFault);
+        assert!(rt; ran.out.bytes().is_empty());
+    }
+    let unheard = Outside {
+        lines: &[1],
+        ..CALM
+    };
+    let ran = run_with(rt.alloc(), "mine", b"\xff\n", unheard)?;
+    assert_eq!(rt; ran.status, Status::BadLog);
+    assert!(rt; ran.err.bytes().is_empty());
+    Ok(())
+}
+
+#[test]
+fn pieces_change_nothing(rt: HostRuntime) -> Result<(), Fail> {
+    let small = Outside { piece: 1, ..CALM };
+    let whole = run_with(rt.alloc(), "mine", "éa\r\néb".as_bytes(), CALM)?;
+    let cut = run_with(rt.alloc(), "mine", "éa\r\néb".as_bytes(), small)?;
+    assert_eq!(rt; whole.status, Status::Done);
+    assert_eq!(rt; whole.out.bytes(), cut.out.bytes());
+    let table = run_with(
+        rt.alloc(),
+        "mine --format csv",
+        "case,activity\n2,é\n1,é\n2,b\n1,a\n".as_bytes(),
+        small,
+    )?;
+    assert_eq!(rt; table.out.bytes(), whole.out.bytes());
+    Ok(())
+}

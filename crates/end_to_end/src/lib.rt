@@ -2,4 +2,6 @@
 #![tactic(auto)]
 
 #[cfg(test)]
+mod automata;
+#[cfg(test)]
 mod tests;

@@ -1,5 +1,7 @@
 //! Words and inputs in memory, and what stands on the two sinks then. Each text was worked out from the definitions,
 //! and not by this program.
+ghost use Rattle.std.specs.Prelude.{◌<◌};
+
 use decl_base::{Name, Status};
 use decl_outside::{MemInputs, MemSink};
 use minerful_core::run;
@@ -37,7 +39,9 @@ const CALM: Outside<'static> = Outside {
 };
 
 /// Runs the words, parted by spaces, with these bytes as standard input.
-fn run_with(alloc: Global, words: &str, bytes: &[u8], outside: Outside) -> Result<Ran, Fail> {
+fn run_with(alloc: Global, words: &str, bytes: &[u8], outside: Outside) -> Result<Ran, Fail>
+    requires { 0 < outside.piece }
+{
     let mut list = Vec::new(alloc);
     for word in words.split_ascii_whitespace() {
         list.push(String::from_str(alloc, word)?)?;

@@ -105,6 +105,7 @@ LOGS = {
     "line-1000.txt": (one_line, 0, 1_000, 1),
     "line-1000-50.txt": (one_line, 0, 1_000, 50),
     "line-1000-349.txt": (one_line, 0, 1_000, 349),
+    "letters-20.txt": (letters, 13, 3_250, 1, 12, 20),
     "line-14.txt": (one_line, 0, 14, 1),
     "line-15.txt": (one_line, 0, 15, 1),
     "line-16.txt": (one_line, 0, 16, 1),
@@ -250,16 +251,23 @@ def least_power(command, path):
 def consistent(repeat):
     lines = head("log", "activities", "thresholds", "seconds", "cpu s", "peak MB", "status at 16384",
                  "least power of two taken", "at 65536: seconds, MB, status")
-    for name in ["process-8.txt", "process-10.txt", "process-12.txt", "line-14.txt", "line-15.txt", "line-16.txt"]:
+    for name in ["process-8.txt", "process-10.txt", "process-12.txt", "line-14.txt", "line-15.txt", "line-16.txt",
+                 "letters-20.txt"]:
         path = os.path.join(FOLDER, name)
-        for thresholds in [("0.9", "0.25", "0.125"), ("0.5", "0", "0")][:2 if name[0] == "p" else 1]:
+        sets = [("0.9", "0.25", "0.125")]
+        if name.startswith("process"):
+            sets.append(("0.5", "0", "0"))
+        if name.startswith("letters"):
+            sets.append(("0.9", "0", "0"))
+        for thresholds in sets:
             command = [PROGRAM, "mine", "--stage", "consistent"]
             for option, value in zip(["--support", "--confidence", "--interest"], thresholds):
                 command += [option, value]
             run = best(repeat, command + [path])
             more = Run(command + ["--max-states", "65536", path]) if run.status else run
             power = least_power(command, path) if more.status == 0 else "above 65536"
-            lines.append(row(name, LOGS[name][2], " ".join(thresholds), *cells(run), outcome(run), power,
+            activities = LOGS[name][-1] if name.startswith("letters") else LOGS[name][2]
+            lines.append(row(name, activities, " ".join(thresholds), *cells(run), outcome(run), power,
                              f"{more.seconds:.2f}, {more.peak:.0f}, {outcome(more)}"))
     return lines
 
@@ -310,6 +318,7 @@ def main():
         " row is reading without counting.",
         "- line-N.txt: one trace of N different characters; line-N-M.txt: the same characters M times over in one"
         " trace. process-N.txt: 2,000 traces of a process of N activities.",
+        "- letters-20.txt: letters without any order, 20 of them, in traces of 1 to 12 events: no process at all.",
         "- short: traces of 1 to 23 events, 12 on average; long: 1 to 39 events, 20 on average.",
     ] + tables + [""]
     if not given.no_write:

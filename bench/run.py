@@ -90,6 +90,16 @@ def process(path, seed, names, traces):
             file.write("".join(trace) + "\n")
 
 
+def rare(path, seed, names, others):
+    """One process of so many steps in a row; in every second trace stands one step more that no other trace has."""
+    source = random.Random(seed)
+    steps = "".join(chr(97 + place) for place in range(names))
+    with open(path, "w", encoding="utf-8") as file:
+        for place in range(others):
+            cut = source.randrange(1, names)
+            file.write(steps + "\n" + steps[:cut] + chr(0x4E00 + place) + steps[cut:] + "\n")
+
+
 LOGS = {
     "short-1m.txt": (letters, 1, 1_000_000, 1, 23),
     "short-12m.txt": (letters, 2, 12_000_000, 1, 23),
@@ -106,6 +116,8 @@ LOGS = {
     "line-1000-50.txt": (one_line, 0, 1_000, 50),
     "line-1000-349.txt": (one_line, 0, 1_000, 349),
     "letters-20.txt": (letters, 13, 3_250, 1, 12, 20),
+    "rare-12-100.txt": (rare, 14, 12, 100),
+    "rare-12-400.txt": (rare, 15, 12, 400),
     "line-14.txt": (one_line, 0, 14, 1),
     "line-15.txt": (one_line, 0, 15, 1),
     "line-16.txt": (one_line, 0, 16, 1),
@@ -182,7 +194,8 @@ def head(*names):
 
 
 def strings(repeat):
-    lines = head("log", "events", "command", "seconds", "cpu s", "peak MB", "M events/cpu s", "bytes/event", "status")
+    lines = head("log", "events", "command", "seconds", "cpu s", "peak MB", "M events/cpu s",
+                 "bytes/event, or MB/cpu s", "status")
     for name in ["short-1m.txt", "short-12m.txt", "long-1m.txt", "long-16m.txt"]:
         path, events = os.path.join(FOLDER, name), LOGS[name][2]
         size = os.path.getsize(path)
@@ -252,7 +265,7 @@ def consistent(repeat):
     lines = head("log", "activities", "thresholds", "seconds", "cpu s", "peak MB", "status at 16384",
                  "least power of two taken", "at 65536: seconds, MB, status")
     for name in ["process-8.txt", "process-10.txt", "process-12.txt", "line-14.txt", "line-15.txt", "line-16.txt",
-                 "letters-20.txt"]:
+                 "rare-12-100.txt", "rare-12-400.txt", "letters-20.txt"]:
         path = os.path.join(FOLDER, name)
         sets = [("0.9", "0.25", "0.125")]
         if name.startswith("process"):
@@ -266,7 +279,7 @@ def consistent(repeat):
             run = best(repeat, command + [path])
             more = Run(command + ["--max-states", "65536", path]) if run.status else run
             power = least_power(command, path) if more.status == 0 else "above 65536"
-            activities = LOGS[name][-1] if name.startswith("letters") else LOGS[name][2]
+            activities = {"letters": LOGS[name][-1], "rare": sum(LOGS[name][2:])}.get(name.split("-")[0], LOGS[name][2])
             lines.append(row(name, activities, " ".join(thresholds), *cells(run), outcome(run), power,
                              f"{more.seconds:.2f}, {more.peak:.0f}, {outcome(more)}"))
     return lines
@@ -314,11 +327,12 @@ def main():
            " clock as upper bounds." if load[0] > 1 else ""),
         "- `M events/cpu s` is millions of events a second of processor time; `wc -m` and `tr` ran with"
         " LC_ALL=C.UTF-8.",
-        "- read-16m.txt is long-16m.txt with a last line that isn't UTF-8: it's read to its end and then refused, so its"
-        " row is reading without counting.",
+        "- read-16m.txt is long-16m.txt with a last line that isn't UTF-8: it's read to its end and then refused, so"
+        " its row is reading without counting.",
         "- line-N.txt: one trace of N different characters; line-N-M.txt: the same characters M times over in one"
         " trace. process-N.txt: 2,000 traces of a process of N activities.",
         "- letters-20.txt: letters without any order, 20 of them, in traces of 1 to 12 events: no process at all.",
+        "- rare-N-M.txt: N steps in a row, and M further activities that each come once.",
         "- short: traces of 1 to 23 events, 12 on average; long: 1 to 39 events, 20 on average.",
     ] + tables + [""]
     if not given.no_write:

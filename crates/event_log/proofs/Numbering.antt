@@ -3,7 +3,7 @@ use Rattle.std.proofs.Common.{◌≡◌, ℕ, ◌<◌, List, [], ◌∷◌, ◌+
 use Rattle.std.specs.Prelude.{slice_index, slice_index_or}
 use Rattle.std.proofs.lemmas.List.{get_or-map, get_or_append_left, length-append}
 use Rattle.std.proofs.lemmas.List.Elements.{All-head, All-tail}
-use Rattle.event_log.specs.Logs.{alphabet, events_of, in_byte_order, named, place_of, ranked, has_name, IsNumbering}
+use Rattle.event_log.specs.Logs.{alphabet, events_of, in_byte_order, named, place_of, ranked, IsNumbering}
 use Rattle.event_log.proofs.Alphabets.{ascending-same, in_byte_order-ascends, in_byte_order-has}
 
 -- the alphabet of the log of names is the names in order

@@ -1,17 +1,16 @@
 -- From the parts of a report to the outcome of a log.
-use Rattle.std.proofs.Common.{◌≡◌, ℕ, ◌<◌, ◌≤◌, List, [], ◌∷◌, All, Bool, true, false, cond, ltb, map, length, refl, sym, ap, subst, ◌∙◌, arith}
+use Rattle.std.proofs.Common.{◌≡◌, ℕ, ◌<◌, ◌≤◌, List, true, false, map, length, sym, ap, subst, ◌∙◌, arith}
 use Rattle.std.proofs.lemmas.Bool.Decides.{nat_tests}
-use Rattle.std.specs.Prelude.{slice_index, nat_lt}
+use Rattle.std.specs.Prelude.{nat_lt}
 use Rattle.decl_base.specs.declared.refusal.Refusal.{Refusal}
 use Rattle.decl_base.specs.declared.refusal.Refusal.TheVariants as refusal
-use Rattle.event_log.specs.Logs.{alphabet, events_of, in_byte_order, named, place_of, ranked, IsNumbering}
+use Rattle.event_log.specs.Logs.{alphabet, in_byte_order, named, place_of, ranked, IsNumbering}
 use Rattle.event_log.proofs.Numbering.{alphabet-named, ranked-named}
 use Rattle.interplay_kb.specs.Ranks.{AreRanks, ranked as ranked_by}
 use Rattle.report_text.specs.KbTable.{kb_text}
-use Rattle.minerful_words.specs.declared.settings.Command.TheVariants.{Mine, Kb}
+use Rattle.minerful_words.specs.declared.settings.Command.TheVariants.{Mine}
 use Rattle.minerful_words.specs.declared.settings.Settings.{Settings}
 use Rattle.scoring.specs.Candidates.{candidates_of, CandidatesCause}
-use Rattle.scoring.specs.declared.scored.Scored.{Scored}
 use Rattle.decl_base.specs.declared.status.Status.TheVariants as status
 use Rattle.minerful_core.proofs.Ranking.{order-length, ranks_of_numbered}
 use Rattle.minerful_core.specs.Mining.{MayRefuseAnswer}

@@ -1,10 +1,9 @@
 -- The parts of a report, and what a log of numbers tells of its log of names.
-use Rattle.std.proofs.Common.{◌≡◌, ◌≢◌, ℕ, suc, ◌+◌, ◌<◌, ◌≤◌, List, [], ◌∷◌, ◌++◌, All, Bool, true, false, Result, Ok, Err, IfOk, length, map, refl, sym, ap, ap₂, subst, ◌∙◌, arith}
+use Rattle.std.proofs.Common.{◌≡◌, ℕ, suc, ◌+◌, ◌<◌, ◌≤◌, List, [], ◌∷◌, ◌++◌, All, true, Result, Ok, Err, IfOk, length, map, refl, sym, ap, ap₂, subst, ◌∙◌, arith}
 use Rattle.std.proofs.lemmas.Bool.Decides.{nat_tests}
 use Rattle.std.proofs.lemmas.List.{length-map, length-append}
 use Rattle.std.proofs.lemmas.List.Elements.{All-map, All-from_recursion}
 use Rattle.std.proofs.lemmas.Option.{get_or_from_slice_get, slice_get-get_or}
-use Rattle.std.specs.List.{AllByRecursion}
 use Rattle.std.specs.Prelude.{slice_index_or}
 use Rattle.decl_base.specs.declared.refusal.Refusal.{Refusal}
 use Rattle.decl_base.specs.declared.refusal.Refusal.TheVariants as refusal
@@ -22,8 +21,7 @@ use Rattle.minerful_words.specs.declared.settings.Settings.{Settings}
 use Rattle.reduce_model.specs.Sifting.{Sifting, IsSift, IsSifted, RefusesSift}
 use Rattle.reduce_model.specs.declared.decision.Decision.{Decision}
 use Rattle.reduce_model.specs.declared.decision.Decision.TheVariants.{Kept, Conflict, Weaker, FirstPass, SecondPass}
-use Rattle.dfa_core.specs.Traces.{IsTrace}
-use Rattle.scoring.specs.Candidates.{candidates_of, takes, IsCandidate}
+use Rattle.scoring.specs.Candidates.{takes, IsCandidate}
 use Rattle.scoring.proofs.Members.{candidates_are}
 use Rattle.scoring.specs.declared.scored.Scored.{Scored}
 use Rattle.template_core.specs.Constraints.{IsWellMade, IsWellMadeFor}
@@ -31,7 +29,7 @@ use Rattle.template_core.specs.declared.constraint.Constraint.{Constraint}
 use Rattle.template_core.specs.declared.kind.Kind.{Kind}
 use Rattle.template_core.specs.declared.kind.Kind.TheVariants.{Init, End, Participation, AtMostOne, CoExistence, NotCoExistence}
 use Rattle.minerful_core.specs.Mining.{MayRefuseAnswer}
-use Rattle.minerful_core.specs.Outcome.{Outcome, refuses, answers, candidates_in, scores_text, consistent_text, IsConsistentOutcome}
+use Rattle.minerful_core.specs.Outcome.{answers, candidates_in, scores_text, consistent_text, IsConsistentOutcome}
 use Rattle.minerful_core.proofs.Ranking.{alphabet-length, numbering_of_numbered}
 
 abbrev constraint_in : Scored → Constraint

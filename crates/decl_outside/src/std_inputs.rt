@@ -1,6 +1,7 @@
-ghost use Rattle.std.specs.Prelude.{◌≡◌, None, true, false};
+ghost use Rattle.std.specs.Prelude.{◌≡◌, ◌<◌, length, None, true, false};
 ghost use Rattle.std.specs.Io.{ReadsAtMost};
-ghost use Rattle.decl_outside.specs.Inputs.{InputState};
+ghost use Rattle.std.specs.Io.KnownBytes.{ReadConsumes};
+ghost use Rattle.decl_outside.specs.Inputs.{InputState, Reads, left_of};
 
 use crate::{Failed, Inputs};
 use decl_base::Name;
@@ -80,7 +81,14 @@ impl<R: Files + Input + Drop> Inputs for StdInputs<R> {
         Ok(())
     }
 
-    fn read(&mut self, buffer: &mut [u8]) -> Result<usize, Failed> {
+    /// Reads from the file that is open, else from standard input.
+    fn read(&mut self, buffer: &mut [u8]) -> Result<usize, Failed>
+        requires room { 0 < length buffer.old }
+        requires open { self.old.is_open ≡ true }
+        ensures reads { Reads (⟦<StdInputs<R> as Inputs>⟧.state self.old) (⟦<StdInputs<R> as Inputs>⟧.state self.new) buffer.new result }
+        ensures given { ReadConsumes (left_of R.File.Read.remaining R.Reader.remaining self.old.file self.old.standard)
+            (left_of R.File.Read.remaining R.Reader.remaining self.new.file self.new.standard) result buffer.new }
+    {
         match read_current(&mut self.file, &mut self.standard, buffer) {
             Ok(count) => Ok(count),
             Err(_) => {
@@ -97,7 +105,9 @@ fn read_current<F: Read, S: Read>(
     standard: &mut Option<S>,
     buffer: &mut [u8],
 ) -> io::Result<usize>
-    ensures { ReadsAtMost result buffer.new }
+    ensures bound { ReadsAtMost result buffer.new }
+    ensures given { ReadConsumes (left_of F.remaining S.remaining file.old standard.old)
+        (left_of F.remaining S.remaining file.new standard.new) result buffer.new }
 {
     if let Some(file) = file {
         return file.read(buffer);

@@ -83,11 +83,23 @@ fn faults(rt: HostRuntime) -> Result<(), Fail> {
 }
 
 #[test]
-fn system_edge(rt: HostRuntime) -> Result<(), Fail> {
-    let alloc = rt.alloc();
-    let mut sink = StdSink::new(Vec::new(alloc));
+fn standard_sink_writes(rt: HostRuntime) -> Result<(), Fail> {
+    let mut bytes = Vec::new(rt.alloc());
+    let mut sink = StdSink::new(&mut bytes);
     assert!(rt; write_all(&mut sink, b"abc").is_ok());
+    drop(sink);
+    assert_eq!(rt; bytes.as_slice(), b"abc".as_slice());
+    Ok(())
+}
+
+#[test]
+fn standard_inputs_read_files(rt: HostRuntime) -> Result<(), Fail> {
+    let alloc = rt.alloc();
     let mut inputs = StdInputs::new(rt);
     assert!(rt; inputs.open(Name::of(alloc, "no/such/file")?).is_err());
+    inputs.open(Name::of(alloc, "/dev/zero")?)?;
+    let mut buffer = [1; 4];
+    assert_eq!(rt; inputs.read(&mut buffer)?, 4);
+    assert_eq!(rt; buffer, [0; 4]);
     Ok(())
 }

@@ -223,10 +223,10 @@ module _ (columns : Columns) (limits : Limits) (events : List Event) (all : Coll
         used = names_used;
       };
       within = record {
-        activities = h.few_activities;
-        traces = omega (arith, ap length made, length-map-range_with_len (λ case. map (λ kept. kept.activity) (filter (is_of_case case) (sorted ordered))) 0 (length all.cases.names), h.few_cases);
-        events = omega (arith, flat-count, h.few_events);
-        activity_limit = h.activity_limit;
+        name_count = h.few_activities;
+        trace_count = omega (arith, ap length made, length-map-range_with_len (λ case. map (λ kept. kept.activity) (filter (is_of_case case) (sorted ordered))) 0 (length all.cases.names), h.few_cases);
+        event_count = omega (arith, flat-count, h.few_events);
+        name_limit = h.activity_limit;
         trace_limit = kept_limits.0;
         event_limit = kept_limits.1;
       };

@@ -1,6 +1,6 @@
 -- The log that a CSV text holds. A record is a list of fields, and a field a list of bytes.
 -- The first record is the header, and each record behind it is an event of a case.
-use Rattle.std.specs.Prelude.{◌≡◌, ℕ, ◌+◌, ◌≤◌, List, [], ◌∷◌, Bool, false, ◌&&◌, not, if◌then◌else◌, nat_le, nat_lt, Option, None, Some, Result, Ok, Err, length, map, filter, take, position, slice_index_or, option_map, option_to_list, unwrap_or, pos}
+use Rattle.std.specs.Prelude.{◌≡◌, ℕ, ◌+◌, List, [], ◌∷◌, Bool, false, ◌&&◌, not, if◌then◌else◌, nat_le, nat_lt, Option, None, Some, Result, Ok, Err, length, map, filter, take, position, slice_index_or, option_map, option_to_list, unwrap_or, pos}
 use Rattle.std.specs.Cmp.Lexicographic.{slice_cmp}
 use Rattle.std.specs.declared.cmp.Ordering.{Ordering}
 use Rattle.std.specs.List.{list_any, range_with_len}
@@ -11,9 +11,7 @@ use Rattle.csv.specs.Reading.{default_config, records, strip_bom}
 use Rattle.decl_base.specs.declared.limits.Limits.{Limits}
 use Rattle.decl_base.specs.declared.refusal.Refusal.{Refusal}
 use Rattle.decl_base.specs.declared.refusal.Refusal.TheVariants as refusal
-use Rattle.event_log.specs.Alphabet.{Names}
-use Rattle.event_log.specs.Log.{Traces}
-use Rattle.event_log.specs.Logs.{place_of, has_name, first_seen, events_of}
+use Rattle.event_log.specs.Logs.{place_of, has_name, first_seen}
 use Rattle.log_columns.specs.declared.Columns.{Columns}
 use Rattle.log_columns.specs.declared.OrderAs.{OrderAs}
 use Rattle.log_columns.specs.declared.OrderAs.TheVariants as by
@@ -137,12 +135,3 @@ activities_of columns bytes =
 abbrev pub CsvCause : Result (List (List (List ℕ))) Refusal → Refusal → Type 0
 CsvCause outcome refusal.Memory = Unit {0}
 CsvCause outcome cause = outcome ≡ Err cause
-
--- all numbers are within the limits, which the two keep
-pub record IsWithin (limits : Limits) (alphabet : Names) (log : Traces) : Type 0 where
-  pub activities : length alphabet.names ≤ limits.activities
-  pub traces : length log.traces ≤ limits.traces
-  pub events : length (events_of log.traces) ≤ limits.events
-  pub activity_limit : alphabet.limit ≡ limits.activities
-  pub trace_limit : log.trace_limit ≡ limits.traces
-  pub event_limit : log.event_limit ≡ limits.events

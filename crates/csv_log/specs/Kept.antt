@@ -16,7 +16,8 @@ use Rattle.csv_log.specs.declared.collect.Collected.{Collected}
 use Rattle.csv_log.specs.declared.kept.Kept.{Kept}
 use Rattle.csv_log.specs.declared.places.Places.{Places}
 use Rattle.csv_log.specs.declared.row.Fields.{Fields}
-use Rattle.csv_log.specs.CsvLog.{Event, IsWithin, log_of}
+use Rattle.event_log.specs.Within.{IsWithin}
+use Rattle.csv_log.specs.CsvLog.{Event, log_of}
 use Rattle.csv_log.specs.Number.{number_of}
 
 -- the places of the wanted columns in a header

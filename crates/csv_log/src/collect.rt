@@ -1,5 +1,6 @@
-ghost use Rattle.std.specs.Prelude.{◌≡◌, ◌≤◌, ◌<◌, ◌^◌, ◌+◌, [], length, IfOk, IfErr, OnOk};
+ghost use Rattle.std.specs.Prelude.{◌≡◌, ◌≤◌, ◌+◌, [], length, IfOk, IfErr, OnOk};
 ghost use Rattle.event_log.specs.Logs.{place_of, with_name};
+ghost use Rattle.event_log.specs.Within.{CanCount};
 ghost use Rattle.log_columns.specs.declared.OrderAs.{OrderAs};
 ghost use Rattle.csv_log.specs.Kept.{AddsEvent, CaseCause, CollectCause, Collects};
 
@@ -24,8 +25,7 @@ pub(crate) struct Collected {
 impl Collected {
     /// No event.
     pub fn new(alloc: Global, limits: &Limits) -> Collected
-        requires traces { limits.now.traces < 2 ^ 32 }
-        requires activities { limits.now.activities < 2 ^ 32 }
+        requires { CanCount limits.now }
         ensures { (order_as : OrderAs) → Collects order_as limits.now [] result }
     {
         Collected {

@@ -1,6 +1,7 @@
-ghost use Rattle.std.specs.Prelude.{◌≡◌, ◌<◌, ◌^◌, List, IfOk, IfErr, Ok};
+ghost use Rattle.std.specs.Prelude.{◌≡◌, List, IfOk, IfErr, Ok};
 ghost use Rattle.event_log.specs.Logs.{named, IsNumbering};
-ghost use Rattle.csv_log.specs.CsvLog.{activities_of, csv_log, CsvCause, Event, IsWithin};
+ghost use Rattle.event_log.specs.Within.{CanCount, IsWithin};
+ghost use Rattle.csv_log.specs.CsvLog.{activities_of, csv_log, CsvCause, Event};
 ghost use Rattle.csv_log.specs.Kept.{Collects, IsLogOf};
 
 use crate::Columns;
@@ -25,8 +26,7 @@ pub fn read_csv(
     columns: &Columns,
     limits: &Limits,
 ) -> Result<(Alphabet, Log), Refusal>
-    requires traces { limits.now.traces < 2 ^ 32 }
-    requires activities { limits.now.activities < 2 ^ 32 }
+    requires countable { CanCount limits.now }
     ensures log { IfOk result (λ read. csv_log columns.now limits.now bytes.now ≡ Ok (named read.0.names read.1.traces)) }
     ensures names { IfOk result (λ read. read.0.names ≡ activities_of columns.now bytes.now) }
     ensures numbering { IfOk result (λ read. IsNumbering read.0.names read.1.traces) }

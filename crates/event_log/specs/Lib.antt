@@ -1,3 +1,4 @@
 pub mod Alphabet
 pub mod Log
 pub mod Logs
+pub mod Within

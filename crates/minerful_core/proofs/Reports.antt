@@ -12,7 +12,7 @@ use Rattle.decl_base.specs.Limits.{standard}
 use Rattle.decl_base.specs.declared.limits.Limits.{Limits}
 use Rattle.event_log.specs.Alphabet.{Names}
 use Rattle.event_log.specs.Log.{Traces}
-use Rattle.strings_log.specs.Reading.{IsWithin as IsReadWithin}
+use Rattle.event_log.specs.Within.{IsWithin as IsReadWithin}
 use Rattle.minerful_core.specs.Reading.{IsWithin}
 use Rattle.event_log.specs.Logs.{alphabet, events_of, in_byte_order, named, ranked, IsNumbered, IsNumbering}
 use Rattle.event_log.proofs.Numbering.{alphabet-named}

@@ -16,7 +16,8 @@ use Rattle.event_log.specs.Log.{Traces}
 use Rattle.event_log.specs.Logs.{events_of, with_name, first_seen, named, IsNumbered}
 use Rattle.event_log.proofs.Numbering.{maps-agree}
 use Rattle.strings_log.specs.StringLog.{events_of_text, trace_of, log_of, fault_behind, string_log}
-use Rattle.strings_log.specs.Reading.{IsWithin, IsFault, ReadCause}
+use Rattle.event_log.specs.Within.{IsWithin}
+use Rattle.strings_log.specs.Reading.{IsFault, ReadCause}
 use Rattle.strings_log.specs.Adding.{AddsLine, LineCause, name_at}
 use Rattle.strings_log.proofs.Putting.{events_of-append, seen-keeps, seen-least}
 use Rattle.strings_log.proofs.Faults.{Faultless, Faultless-more, string_log-fault, string_log-log, fault-long, fault-traces, fault-not_utf8, fault-events, fault-activities, fault-none}

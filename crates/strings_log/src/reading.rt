@@ -2,7 +2,8 @@ ghost use Rattle.std.specs.Prelude.{◌≡◌, true, Ok, IfOk, IfErr, IfSome};
 ghost use Rattle.decl_outside.specs.Inputs.{KeepsInput};
 ghost use Rattle.event_log.specs.Logs.{named, IsNumbered};
 ghost use Rattle.strings_log.specs.StringLog.{string_log};
-ghost use Rattle.strings_log.specs.Reading.{CanCount, IsWithin, ReadCause};
+ghost use Rattle.event_log.specs.Within.{CanCount, IsWithin};
+ghost use Rattle.strings_log.specs.Reading.{ReadCause};
 
 use crate::adding::add_line;
 use decl_base::{Limits, Refusal};

@@ -1,7 +1,7 @@
-ghost use Rattle.std.specs.Prelude.{◌≡◌, ◌<◌, length, None, true, false};
+ghost use Rattle.std.specs.Prelude.{◌≡◌, ◌<◌, not, length, None, is_some, true, false, OnOk, OnErr};
 ghost use Rattle.std.specs.Io.{ReadsAtMost};
 ghost use Rattle.std.specs.Io.KnownBytes.{ReadConsumes};
-ghost use Rattle.decl_outside.specs.Inputs.{InputState, Reads, left_of};
+ghost use Rattle.decl_outside.specs.Inputs.{InputState, Opens, Reads, is_standard, left_of};
 
 use crate::{Failed, Inputs};
 use decl_base::Name;
@@ -55,7 +55,13 @@ impl<R: Files + Input + Drop> Inputs for StdInputs<R> {
       left = None;
     } };
 
-    fn open(&mut self, name: Name) -> Result<(), Failed> {
+    /// Goes over to standard input for the name `-`, which doesn't fail, and to a file for any other.
+    fn open(&mut self, name: Name) -> Result<(), Failed>
+        ensures opens { Opens name (⟦<StdInputs<R> as Inputs>⟧.state self.old) (⟦<StdInputs<R> as Inputs>⟧.state self.new) result }
+        ensures file { OnOk result (is_some self.new.file ≡ not (is_standard name)) }
+        ensures standard { OnOk result (is_some self.new.standard ≡ is_standard name) }
+        ensures failed { OnErr result (is_standard name ≡ false) }
+    {
         self.file = None;
         self.standard = None;
         if name.text() == "-" {

@@ -1,6 +1,0 @@
-use Rattle.minerful_core.proofs.Reports.{IfOk-both, within_limits}
-use Rattle.minerful_core.proofs.reading.read_log.Goals as goal
-
-pub returns-in-Strings-clause-within : goal.returns-in-Strings-clause-within
-returns-in-Strings-clause-within g c =
-    IfOk-both c.read_strings.result _ _ _ (λ read numbered within. within_limits _ read.0 read.1 c.standard.ensures numbered within) c.read_strings.ensures.numbered c.read_strings.ensures.within

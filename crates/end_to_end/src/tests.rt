@@ -6,11 +6,14 @@ use decl_base::{Name, Status};
 use decl_outside::{MemInputs, MemSink};
 use minerful_core::run;
 use std::alloc::Global;
+use std::str::from_utf8;
 use std::test::Fail;
 
-const ROOM: u64 = 4096;
+const ROOM: u64 = 65536;
 
 const STRICT: &str = "mine --stage scores --support 1 --confidence 1 --interest 1";
+
+const ALL: &str = "mine --stage scores --support 0 --confidence 0 --interest 0";
 
 const HALF: &str = "mine --stage consistent --support 0.5 --confidence 0 --interest 0";
 
@@ -38,7 +41,7 @@ const CALM: Outside<'static> = Outside {
     piece: 10,
 };
 
-/// Runs the words, parted by spaces, with these bytes as standard input.
+/// Runs the words, parted by spaces, with these bytes as standard input and as the file `log.txt`.
 fn run_with(alloc: Global, words: &str, bytes: &[u8], outside: Outside) -> Result<Ran, Fail>
     requires { 0 < outside.piece }
 {
@@ -48,6 +51,7 @@ fn run_with(alloc: Global, words: &str, bytes: &[u8], outside: Outside) -> Resul
     }
     let mut inputs = MemInputs::new(alloc, outside.piece, outside.reads.to_vec(alloc)?);
     inputs.put(Name::of(alloc, "-")?, bytes.to_vec(alloc)?)?;
+    inputs.put(Name::of(alloc, "log.txt")?, bytes.to_vec(alloc)?)?;
     let mut out = MemSink::new(alloc, ROOM, outside.piece, outside.writes.to_vec(alloc)?)?;
     let mut err = MemSink::new(alloc, ROOM, outside.piece, outside.lines.to_vec(alloc)?)?;
     let status = run(alloc, &list, &mut inputs, &mut out, &mut err);
@@ -109,7 +113,7 @@ fn reports_are_printed(rt: HostRuntime) -> Result<(), Fail> {
 
 #[test]
 fn refusals_are_told(rt: HostRuntime) -> Result<(), Fail> {
-    let cases: [(&str, &[u8], Status, &str); 8] = [
+    let cases: [(&str, &[u8], Status, &str); 11] = [
         ("", b"", Status::Usage, "minerful: usage, place 0\n"),
         (
             "mine --nosuch",
@@ -140,6 +144,24 @@ fn refusals_are_told(rt: HostRuntime) -> Result<(), Fail> {
             b"case,activity\n1,a\n2\n",
             Status::BadLog,
             "minerful: record 3 is too short\n",
+        ),
+        (
+            "mine --format csv --order-column n --order-as number",
+            b"case,activity,n\n1,a,x1\n",
+            Status::BadLog,
+            "minerful: record 2 has no order number\n",
+        ),
+        (
+            "mine --format csv",
+            b"",
+            Status::BadLog,
+            "minerful: no column, place 1\n",
+        ),
+        (
+            "kb --format csv",
+            b"\xef\xbb\xbf\xef\xbb\xbf\xef\xbb\xbfcase,activity\n1,a\n",
+            Status::BadLog,
+            "minerful: no column, place 1\n",
         ),
         (
             "mine --stage consistent --max-states 3",
@@ -207,5 +229,146 @@ fn pieces_change_nothing(rt: HostRuntime) -> Result<(), Fail> {
         small,
     )?;
     assert_eq!(rt; table.out.bytes(), whole.out.bytes());
+    Ok(())
+}
+
+/// Whether the output has this text somewhere.
+fn has(ran: &Ran, text: &str) -> bool {
+    match from_utf8(ran.out.bytes()) {
+        Ok(out) => out.find(text).is_some(),
+        Err(_) => false,
+    }
+}
+
+/// Single constraints of reports, each worked out by hand.
+#[test]
+fn scores_are_exact(rt: HostRuntime) -> Result<(), Fail> {
+    let cases = [
+        (
+            "aab",
+            "{\"confidence\":[1,1],\"interest\":[1,1],\"parameters\":[[\"a\"],[\"b\"]],\"support\":[1,1],\"template\":\"Response\"}",
+        ),
+        (
+            "aab",
+            "{\"confidence\":[1,2],\"interest\":[1,2],\"parameters\":[[\"a\"],[\"b\"]],\"support\":[1,2],\"template\":\"AlternateResponse\"}",
+        ),
+        (
+            "aab",
+            "{\"confidence\":[1,2],\"interest\":[1,2],\"parameters\":[[\"a\"],[\"b\"]],\"support\":[1,2],\"template\":\"ChainResponse\"}",
+        ),
+        (
+            "aab",
+            "{\"confidence\":[1,1],\"interest\":[1,1],\"parameters\":[[\"a\"],[\"b\"]],\"support\":[1,1],\"template\":\"AlternatePrecedence\"}",
+        ),
+        (
+            "aab",
+            "{\"confidence\":[2,3],\"interest\":[2,3],\"parameters\":[[\"a\"],[\"b\"]],\"support\":[2,3],\"template\":\"AlternateSuccession\"}",
+        ),
+        (
+            "ab\nc",
+            "{\"confidence\":[1,1],\"interest\":[1,2],\"parameters\":[[\"a\"],[\"c\"]],\"support\":[1,1],\"template\":\"NotCoExistence\"}",
+        ),
+        (
+            "ab\na\nc",
+            "{\"confidence\":[1,3],\"interest\":[1,9],\"parameters\":[[\"a\"],[\"b\"]],\"support\":[1,2],\"template\":\"Response\"}",
+        ),
+        (
+            "aba",
+            "{\"confidence\":[1,1],\"interest\":[1,1],\"parameters\":[[\"a\"],[\"b\"]],\"support\":[1,1],\"template\":\"Precedence\"}",
+        ),
+        (
+            "aba",
+            "{\"confidence\":[1,2],\"interest\":[1,2],\"parameters\":[[\"a\"],[\"b\"]],\"support\":[1,2],\"template\":\"Response\"}",
+        ),
+        (
+            "aba",
+            "{\"confidence\":[2,3],\"interest\":[2,3],\"parameters\":[[\"a\"],[\"b\"]],\"support\":[2,3],\"template\":\"Succession\"}",
+        ),
+        (
+            "aba",
+            "{\"confidence\":[1,3],\"interest\":[1,3],\"parameters\":[[\"b\"],[\"a\"]],\"support\":[1,3],\"template\":\"NotSuccession\"}",
+        ),
+        (
+            "ba",
+            "{\"confidence\":[0,1],\"interest\":[0,1],\"parameters\":[[\"a\"],[\"b\"]],\"support\":[0,1],\"template\":\"ChainPrecedence\"}",
+        ),
+    ];
+    for (log, want) in cases {
+        let ran = run_with(rt.alloc(), ALL, log.as_bytes(), CALM)?;
+        assert_eq!(rt; ran.status, Status::Done);
+        assert!(rt; has(&ran, want), "{want} of {log}");
+    }
+    Ok(())
+}
+
+/// Words that print the same: a threshold in two spellings and as the default, a log by its name.
+#[test]
+fn spellings_print_the_same(rt: HostRuntime) -> Result<(), Fail> {
+    let whole = run_with(rt.alloc(), "mine", b"ab\nab\n", CALM)?;
+    assert!(rt; !whole.out.bytes().is_empty());
+    for words in [
+        "mine --support 1",
+        "mine --support=1.000000",
+        "mine log.txt",
+        "mine -",
+    ] {
+        let ran = run_with(rt.alloc(), words, b"ab\nab\n", CALM)?;
+        assert_eq!(rt; ran.status, Status::Done);
+        assert_eq!(rt; ran.out.bytes(), whole.out.bytes());
+    }
+    Ok(())
+}
+
+const ORDERED: &str = "case,activity,n\n1,a,10\n1,b,9\n1,c,-1\n";
+
+/// Bytes as text come first to last as -1, 10, 9, and as numbers as -1, 9, 10.
+#[test]
+fn csv_logs_are_read_by_columns(rt: HostRuntime) -> Result<(), Fail> {
+    let cases = [
+        (
+            "kb --format csv --order-column n",
+            ORDERED,
+            "           1            1            0            0            1 \"b\"\n",
+        ),
+        (
+            "kb --format csv --order-column n --order-as number",
+            ORDERED,
+            "           1            1            0            0            1 \"a\"\n",
+        ),
+        (
+            "kb --format csv",
+            ORDERED,
+            "           1            1            0            0            1 \"c\"\n",
+        ),
+        (
+            "kb --format csv --case-column n --activity-column case",
+            ORDERED,
+            "           3            3            0            3            3 \"1\"\n",
+        ),
+        (
+            "kb --format csv",
+            "\u{feff}\u{feff}case,activity\n1,a\n",
+            "           1            1            0            1            1 \"a\"\n",
+        ),
+    ];
+    for (words, log, want) in cases {
+        let ran = run_with(rt.alloc(), words, log.as_bytes(), CALM)?;
+        assert_eq!(rt; ran.status, Status::Done);
+        assert!(rt; has(&ran, want), "{words}");
+    }
+    Ok(())
+}
+
+/// One line of a refusal, cut where standard error fails.
+#[test]
+fn lines_are_cut_where_they_fail(rt: HostRuntime) -> Result<(), Fail> {
+    let cut = Outside {
+        lines: &[2],
+        ..CALM
+    };
+    let ran = run_with(rt.alloc(), "mine", b"ab\n\xff\n", cut)?;
+    assert_eq!(rt; ran.status, Status::BadLog);
+    assert!(rt; ran.out.bytes().is_empty());
+    assert_eq!(rt; ran.err.bytes(), b"minerful: ".as_slice());
     Ok(())
 }

@@ -1,5 +1,5 @@
 //! What no clause says.
-use crate::{Name, Refusal, Threshold, Trace};
+use crate::{Name, Refusal, Threshold, Trace, line_of};
 use std::test::Fail;
 
 #[test]
@@ -45,17 +45,45 @@ fn names_and_traces_are_made(rt: HostRuntime) -> Result<(), Fail> {
     Ok(())
 }
 
+/// One of each.
+fn each_refusal() -> [Refusal; 21] {
+    [
+        Refusal::Usage { at: 7 },
+        Refusal::NotUtf8 { line: 1 },
+        Refusal::Header { which: 3 },
+        Refusal::ShortRow { row: 12 },
+        Refusal::RowText { row: 2 },
+        Refusal::RowOrder {
+            row: 18_446_744_073_709_551_615,
+        },
+        Refusal::NotJson,
+        Refusal::ModelShape { at: 0 },
+        Refusal::UnknownTemplate { at: 1 },
+        Refusal::Parameters { at: 2 },
+        Refusal::SameParameter { at: 4_294_967_295 },
+        Refusal::LineLong { line: 4 },
+        Refusal::Bytes { limit: 134_217_728 },
+        Refusal::Traces { limit: 1_048_575 },
+        Refusal::Events { limit: 16_777_215 },
+        Refusal::Activities { limit: 1_000 },
+        Refusal::Candidates { count: 65_537 },
+        Refusal::States {
+            phase: 1,
+            built: 17,
+        },
+        Refusal::ReadFault,
+        Refusal::WriteFault,
+        Refusal::Memory,
+    ]
+}
+
 #[test]
-fn refusals_tell_their_line(rt: HostRuntime) -> Result<(), Fail> {
+fn derived_texts_are_the_lines(rt: HostRuntime) -> Result<(), Fail> {
     let alloc = rt.alloc();
-    let line = Refusal::States {
-        phase: 1,
-        built: 17,
+    for refusal in each_refusal() {
+        let mut text = refusal.to_string(alloc)?;
+        text.push('\n')?;
+        assert_eq!(rt; text.as_str(), line_of(&refusal).as_str());
     }
-    .to_string(alloc)?;
-    assert_eq!(rt;
-        line.as_str(),
-        "minerful: too many states, phase 1, constraints 17"
-    );
     Ok(())
 }

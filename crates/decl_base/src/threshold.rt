@@ -1,6 +1,8 @@
 ghost use Rattle.std.specs.Prelude.{◌≡◌, ◌<◌, ◌≤◌, ◌^◌, length, true, option_map, IfSome};
 ghost use Rattle.std.specs.List.{list_all};
-ghost use Rattle.decl_base.specs.Threshold.{fraction_of, threshold_of, is_digit, is_met, number_of_digits};
+ghost use Rattle.decl_base.specs.Threshold.{one, fraction_of, threshold_of, is_digit, is_met, number_of_digits};
+
+use std::marker::Model;
 
 /// The number of millionths in 1.
 const ONE: u32 = 1_000_000;
@@ -12,6 +14,19 @@ const PLACES: usize = 6;
 #[derive(Clone, Copy, Debug, PartialEq, Eq)]
 pub struct Threshold {
     pub millionths: u32,
+}
+
+impl Model for Threshold {
+    ghost use Rattle.std.specs.Prelude.{◌≤◌};
+    ghost use Rattle.decl_base.specs.Threshold.{ThresholdValue, one};
+
+    ghost Value = { ThresholdValue };
+
+    ghost view = { λ t. record { millionths = t.millionths } };
+
+    ghost invariant = { λ t. t.millionths ≤ one };
+
+    ghost inverse = { λ t. record { millionths = t.millionths } };
 }
 
 /// The thresholds of the three scores.
@@ -26,7 +41,7 @@ impl Threshold {
     /// The threshold that a text writes: one digit 0 or 1, alone or followed by a point and 1 to 6 digits, at most 1.
     pub fn read(text: &str) -> Option<Threshold>
         ensures value { option_map (λ t. t.millionths) result ≡ threshold_of text.now }
-        ensures within { IfSome result (λ t. t.millionths ≤ 1000000) }
+        ensures within { IfSome result (λ t. t.millionths ≤ one) }
     {
         let (whole, fraction) = match text.as_bytes() {
             [whole] => (*whole, 0),
@@ -40,9 +55,8 @@ impl Threshold {
         }
     }
 
-    /// Whether the fraction `num`/`den` is at least this threshold.
+    /// Whether the fraction `num`/`den` is at least this threshold, from equality on.
     pub fn met(&self, num: u128, den: u128) -> bool
-        requires few { self.now.millionths ≤ 1000000 }
         requires num_fits { num < 2 ^ 100 }
         requires den_fits { den < 2 ^ 100 }
         ensures { result ≡ is_met self.now.millionths num den }
@@ -54,7 +68,7 @@ impl Threshold {
 /// The millionths that 1 to 6 digits behind a point write.
 fn read_fraction(digits: &[u8]) -> Option<u32>
     ensures value { result ≡ fraction_of digits.now }
-    ensures within { IfSome result (λ n. n < 1000000) }
+    ensures within { IfSome result (λ n. n < one) }
 {
     if digits.is_empty() || digits.len() > PLACES || !are_digits(digits) {
         return None;

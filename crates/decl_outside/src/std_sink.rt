@@ -24,7 +24,7 @@ impl<W: Write + Drop> StdSink<W> {
 impl<W: Write + Drop> Sink for StdSink<W> {
     ghost state = { λ s. record { faults = s.faults; held = None; takes_any_length = true; room = 0 } };
 
-    /// With `Ok` the writer has taken that many bytes, with `Failed` a front of the piece or nothing.
+    /// With `Ok` the writer has taken that many bytes, with `Failed` a prefix of the piece or nothing.
     fn write(&mut self, piece: &[u8]) -> Result<usize, Failed>
         ensures writes { Writes (⟦<StdSink<W> as Sink>⟧.state self.old) (⟦<StdSink<W> as Sink>⟧.state self.new) piece.now result }
         ensures taken { IfOk result (λ n. Appends (W.contents self.old.writer) (W.contents self.new.writer) (take n piece.now)) }

@@ -1,0 +1,102 @@
+ghost use Rattle.std.specs.Prelude.{◌≡◌, ◌≤◌, ◌+◌, ◌++◌, length, decimal};
+ghost use Rattle.decl_base.specs.Refusal.{line_of};
+
+use crate::Refusal;
+use arrayvec::ArrayString;
+use itoa::Buffer;
+
+/// The bytes of the longest line.
+const LINE_SIZE: usize = 96;
+
+/// A line that tells of a refusal, with its line feed.
+pub type RefusalLine = ArrayString<LINE_SIZE>;
+
+/// The line that tells of a refusal, built without taking memory.
+pub fn line_of(refusal: &Refusal) -> RefusalLine
+    ensures { result.bytes ≡ line_of refusal.now }
+{
+    match *refusal {
+        Refusal::Usage { at } => numbered("minerful: usage, place ", u64::from(at), "\n"),
+        Refusal::NotUtf8 { line } => numbered("minerful: line ", line, " is not UTF-8\n"),
+        Refusal::Header { which } => {
+            numbered("minerful: no column, place ", u64::from(which), "\n")
+        }
+        Refusal::ShortRow { row } => numbered("minerful: record ", row, " is too short\n"),
+        Refusal::RowText { row } => numbered("minerful: record ", row, " is not UTF-8\n"),
+        Refusal::RowOrder { row } => {
+            numbered("minerful: record ", row, " has no order number\n")
+        }
+        Refusal::NotJson => plain("minerful: the model is not JSON\n"),
+        Refusal::ModelShape { at } => {
+            numbered("minerful: model shape, constraint ", u64::from(at), "\n")
+        }
+        Refusal::UnknownTemplate { at } => {
+            numbered(
+                "minerful: unknown template, constraint ",
+                u64::from(at),
+                "\n",
+            )
+        }
+        Refusal::Parameters { at } => {
+            numbered(
+                "minerful: wrong parameters, constraint ",
+                u64::from(at),
+                "\n",
+            )
+        }
+        Refusal::SameParameter { at } => {
+            numbered(
+                "minerful: same parameter twice, constraint ",
+                u64::from(at),
+                "\n",
+            )
+        }
+        Refusal::LineLong { line } => numbered("minerful: line ", line, " is too long\n"),
+        Refusal::Bytes { limit } => numbered("minerful: more than ", limit, " bytes\n"),
+        Refusal::Traces { limit } => numbered("minerful: more than ", limit, " traces\n"),
+        Refusal::Events { limit } => numbered("minerful: more than ", limit, " events\n"),
+        Refusal::Activities { limit } => {
+            numbered("minerful: more than ", limit, " activities\n")
+        }
+        Refusal::Candidates { count } => {
+            numbered("minerful: ", count, " constraints are too many\n")
+        }
+        Refusal::States { phase, built } => states_line(phase, built),
+        Refusal::ReadFault => plain("minerful: read fault\n"),
+        Refusal::WriteFault => plain("minerful: write fault\n"),
+        Refusal::Memory => plain("minerful: out of memory\n"),
+    }
+}
+
+fn plain(text: &str) -> RefusalLine
+    requires { length text.now ≤ 96 }
+    ensures { result.bytes ≡ text.now }
+{
+    let mut line = RefusalLine::new();
+    line.push_str(text);
+    line
+}
+
+fn numbered(before: &str, number: u64, after: &str) -> RefusalLine
+    requires { length before.now + length after.now ≤ 76 }
+    ensures text { result.bytes ≡ before.now ++ decimal number ++ after.now }
+    ensures len { length result.bytes ≤ length before.now + length after.now + 20 }
+{
+    let mut line = plain(before);
+    line.push_str(Buffer::new().format(number));
+    line.push_str(after);
+    line
+}
+
+fn states_line(phase: u8, built: u32) -> RefusalLine
+    ensures { result.bytes ≡ line_of (Refusal.States phase built) }
+{
+    let mut line = numbered(
+        "minerful: too many states, phase ",
+        u64::from(phase),
+        ", constraints ",
+    );
+    line.push_str(Buffer::new().format(built));
+    line.push_str("\n");
+    line
+}

@@ -1,7 +1,7 @@
 -- A reader that has given some of the records of a text.
 use Rattle.std.specs.Prelude.{◌≡◌, ℕ, List, [], ◌∷◌, ◌++◌, Bool, true, false, Some}
 use denote.Ref.{Bor}
-use Rattle.csv.specs.Reading.{Ready, Reached, default_config, records, source_of, strip_bom}
+use Rattle.csv.specs.Reading.{Ready, Reached, default_config, is_flexible, records, source_of, strip_bom}
 use Rattle.csv.specs.declared.parser.State.TheVariants as st
 use Rattle.csv.specs.declared.reader.Reader.{Reader}
 use Rattle.csv.specs.declared.reader.Trim.TheVariants as trim
@@ -11,6 +11,8 @@ pub record IsReading (text : List ℕ) (rows : List (List (List ℕ))) (reader :
   pub plain : reader.trim ≡ trim.None
   pub ready : Ready reader
   pub setup : reader.config ≡ default_config
+  -- records may differ in length
+  pub flexible : is_flexible reader ≡ true
   pub left : List ℕ
   pub source : source_of (λ (s : Bor (List ℕ)). Some s.now) reader ≡ Some left
   pub reached : Reached default_config st.StartRecord (strip_bom text) rows reader.state left

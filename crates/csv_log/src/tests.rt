@@ -11,6 +11,7 @@ fn traces(
     text: &[u8],
     order: Option<&str>,
     order_as: OrderAs,
+    limits: &Limits,
 ) -> Result<String, Refusal> {
     let order = match order {
         Some(name) => Some(Name::of(alloc, name)?),
@@ -22,7 +23,7 @@ fn traces(
         order,
         order_as,
     };
-    let (alphabet, log) = read_csv(alloc, text, &columns, &Limits::standard())?;
+    let (alphabet, log) = read_csv(alloc, text, &columns, limits)?;
     let mut written = String::new(alloc);
     for place in 0..log.traces() {
         write_trace(&mut written, &alphabet, log.trace(place))?;
@@ -53,7 +54,7 @@ const ORDERS: &[u8] = b"\xEF\xBB\xBFcase,activity,time
 #[test]
 fn logs_of_texts(rt: HostRuntime) -> Result<(), Fail> {
     let orders = "Register, new|Check|Pay|;Register, new|Check|Pay|;";
-    let cases: [(&[u8], Option<&str>, OrderAs, &str); 13] = [
+    let cases: [(&[u8], Option<&str>, OrderAs, &str); 15] = [
         (ORDERS, None, OrderAs::Text, orders),
         (ORDERS, Some("time"), OrderAs::Text, orders),
         (
@@ -112,9 +113,21 @@ fn logs_of_texts(rt: HostRuntime) -> Result<(), Fail> {
             OrderAs::Text,
             "a|c|;b|;",
         ),
+        (
+            b"case,activity,n\n1,b,x\n1,a,x\n1,c,w\n",
+            Some("n"),
+            OrderAs::Text,
+            "c|b|a|;",
+        ),
+        (
+            b"\xEF\xBB\xBF\xEF\xBB\xBFcase,activity\n1,a\n",
+            None,
+            OrderAs::Text,
+            "a|;",
+        ),
     ];
     for (text, order, order_as, expected) in cases {
-        let written = traces(rt.alloc(), text, order, order_as)?;
+        let written = traces(rt.alloc(), text, order, order_as, &Limits::standard())?;
         assert_eq!(rt; written.as_str(), expected);
     }
     Ok(())
@@ -122,7 +135,13 @@ fn logs_of_texts(rt: HostRuntime) -> Result<(), Fail> {
 
 #[test]
 fn texts_without_a_log(rt: HostRuntime) -> Result<(), Fail> {
-    let cases: [(&[u8], Option<&str>, Refusal); 10] = [
+    let limits = Limits {
+        events: 3,
+        traces: 2,
+        activities: 2,
+        ..Limits::standard()
+    };
+    let cases: [(&[u8], Option<&str>, Refusal); 15] = [
         (b"", None, Refusal::Header { which: 1 }),
         (b"case", None, Refusal::Header { which: 2 }),
         (b"case,activity\n", Some("n"), Refusal::Header { which: 3 }),
@@ -135,6 +154,31 @@ fn texts_without_a_log(rt: HostRuntime) -> Result<(), Fail> {
             b"case,activity\n\xFF,a\n",
             None,
             Refusal::RowText { row: 2 },
+        ),
+        (
+            b"case,activity\n1,\xFF\n",
+            None,
+            Refusal::RowText { row: 2 },
+        ),
+        (
+            b"case,activity\n1,a\n1,a\n1,a\n1,a\n",
+            None,
+            Refusal::Events { limit: 3 },
+        ),
+        (
+            b"case,activity\n1,a\n2,a\n3,a\n",
+            None,
+            Refusal::Traces { limit: 2 },
+        ),
+        (
+            b"case,activity\n1,a\n1,b\n1,c\n",
+            None,
+            Refusal::Activities { limit: 2 },
+        ),
+        (
+            b"\xEF\xBB\xBF\xEF\xBB\xBF\xEF\xBB\xBFcase,activity\n1,a\n",
+            None,
+            Refusal::Header { which: 1 },
         ),
         (
             b"case,activity,n\n1,a,x1\n",
@@ -163,7 +207,7 @@ fn texts_without_a_log(rt: HostRuntime) -> Result<(), Fail> {
         ),
     ];
     for (text, order, refusal) in cases {
-        let read = traces(rt.alloc(), text, order, OrderAs::Number);
+        let read = traces(rt.alloc(), text, order, OrderAs::Number, &limits);
         assert_eq!(rt; read.err(), Some(refusal));
     }
     Ok(())

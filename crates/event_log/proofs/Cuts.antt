@@ -1,5 +1,5 @@
 -- Events cut at places into traces.
-use Rattle.std.proofs.Common.{◌≡◌, ℕ, zero, suc, ◌+◌, ◌-◌, ◌<◌, ◌≤◌, List, [], ◌∷◌, ◌++◌, Some, length, take, drop, map, slice_range, slice_get, get_or, refl, sym, ap, subst, ◌∙◌, arith, append-nil, take-append-drop, length-drop}
+use Rattle.std.proofs.Common.{◌≡◌, ℕ, zero, suc, ◌+◌, ◌-◌, ◌<◌, ◌≤◌, List, [], ◌∷◌, ◌++◌, Some, length, take, drop, map, slice_range, slice_get, get_or, refl, sym, ap, ap₂, subst, ◌∙◌, arith, append-nil, take-append-drop, length-drop}
 use Rattle.std.proofs.lemmas.List.{take_rest, drop_all, drop-append-le, take-append-le, drop-drop, drop-map, take-map}
 use Rattle.event_log.specs.Logs.{events_of}
 use Rattle.event_log.specs.Log.{cut_at, with_last, AscendsTo, StartsAtZero}
@@ -35,6 +35,9 @@ slice_range-append events more start end ordered within =
     ap (take (end - start)) (drop-append-le start events more (omega arith))
     ∙ take-append-le (end - start) (drop start events) more (omega (arith, length-drop start events))
 
+drop-behind : (events more : List ℕ) → drop (length events) (events ++ more) ≡ more
+drop-behind events more = drop-append-le (length events) events more (omega arith) ∙ ap (λ l. l ++ more) (drop_all (length events) events (omega arith))
+
 -- an event more stands in the last trace
 pub cut_at-push : (low start : ℕ) (starts events : List ℕ) (id : ℕ) → AscendsTo low (start ∷ starts) (length events)
     → cut_at (start ∷ starts) (events ++ id ∷ []) ≡ with_last (cut_at (start ∷ starts) events) id
@@ -45,6 +48,14 @@ cut_at-push low start (next ∷ []) events id h =
 cut_at-push low start (next ∷ third ∷ starts) events id h =
     ap (λ l. l ∷ cut_at (next ∷ third ∷ starts) (events ++ id ∷ [])) (slice_range-append events (id ∷ []) start next h.1.0 (AscendsTo-le next (third ∷ starts) (length events) h.1.1))
     ∙ ap (λ l. slice_range events start next ∷ l) (cut_at-push start next (third ∷ starts) events id h.1)
+
+-- a place at the end, and a trace behind it
+pub cut_at-trace : (low : ℕ) (starts events trace : List ℕ) → AscendsTo low starts (length events) → cut_at (starts ++ length events ∷ []) (events ++ trace) ≡ cut_at starts events ++ trace ∷ []
+cut_at-trace low [] events trace h = ap (λ l. l ∷ []) (drop-behind events trace)
+cut_at-trace low (start ∷ []) events trace h =
+    ap₂ (λ l m. l ∷ m ∷ []) (slice_range-append events trace start (length events) h.1 (omega arith) ∙ take_rest events start) (drop-behind events trace)
+cut_at-trace low (start ∷ next ∷ starts) events trace h =
+    ap₂ (λ l m. l ∷ m) (slice_range-append events trace start next h.1.0 (AscendsTo-le next starts (length events) h.1.1)) (cut_at-trace start (next ∷ starts) events trace h.1)
 
 -- the events from the first place on, one trace after another
 pub events_of-cut_at : (low start : ℕ) (starts events : List ℕ) → AscendsTo low (start ∷ starts) (length events) → events_of (cut_at (start ∷ starts) events) ≡ drop start events

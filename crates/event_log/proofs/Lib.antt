@@ -1,4 +1,5 @@
 pub mod Alphabets
+pub mod Appearing
 pub mod Cuts
 pub mod Logging
 pub mod Naming

@@ -1,8 +1,8 @@
 -- What calls do to a log.
-use Rattle.std.proofs.Common.{◌≡◌, ℕ, ◌<◌, ◌≤◌, List, [], ◌∷◌, ◌++◌, length, map, ap₂, sym, ap, ◌∙◌, subst, arith}
+use Rattle.std.proofs.Common.{◌≡◌, ℕ, ◌+◌, ◌<◌, ◌≤◌, List, [], ◌∷◌, ◌++◌, length, map, ap₂, sym, ap, ◌∙◌, subst, arith}
 use Rattle.event_log.specs.Logs.{events_of}
 use Rattle.event_log.specs.Log.{Traces, with_trace, with_event, with_last, cut_at, AscendsTo, StartsAtZero}
-use Rattle.event_log.proofs.Cuts.{length-cut_at, cut_at-begin, cut_at-push, cut_at-map, events_of-all}
+use Rattle.event_log.proofs.Cuts.{length-cut_at, cut_at-begin, cut_at-push, cut_at-map, cut_at-trace, events_of-all}
 
 -- a log by its parts
 abbrev pub log_of : List ℕ → List ℕ → ℕ → ℕ → Traces
@@ -39,6 +39,20 @@ module _ (starts events : List ℕ) (trace_limit event_limit : ℕ) (now : Trace
       last : (starts : List ℕ) → AscendsTo 0 starts (length events) → 0 < length starts → cut_at starts (events ++ id ∷ []) ≡ with_last (cut_at starts events) id
       last [] h some = absurd (omega arith)
       last (start ∷ starts) h some = cut_at-push 0 start starts events id h
+
+  pub starts_few : length now.traces < now.trace_limit → length starts < trace_limit
+  starts_few few = omega (arith, few, ap (λ s. length s.traces) is, length-cut_at starts events, ap (λ s. s.trace_limit) is)
+
+  pub events_fit : (count : ℕ) → AscendsTo 0 starts (length events) → StartsAtZero starts events → length (events_of now.traces) + count ≤ now.event_limit → length events + count ≤ event_limit
+  events_fit count ascends zero_start fits =
+      omega (arith, fits, ap (λ s. length (events_of s.traces)) is, ap length (events_of-all starts events ascends zero_start), ap (λ s. s.event_limit) is)
+
+  pub put_behind : (next more trace : List ℕ) (place : ℕ) → next ≡ starts ++ place ∷ [] → place ≡ length events → more ≡ events ++ trace → AscendsTo 0 starts (length events)
+      → log_of next more trace_limit event_limit ≡ record now { traces = now.traces ++ trace ∷ [] }
+  put_behind next more trace place pushed at_end grown ascends =
+      ap₂ (λ s e. log_of s e trace_limit event_limit) (pushed ∙ ap (λ n. starts ++ n ∷ []) at_end) grown
+      ∙ ap (λ (l : List (List ℕ)). record { traces = l; trace_limit = trace_limit; event_limit = event_limit }) (cut_at-trace 0 starts events trace ascends)
+      ∙ ap (λ (s : Traces). record s { traces = s.traces ++ trace ∷ [] }) is
 
 pub StartsAtZero-begin : (starts events : List ℕ) (place : ℕ) → place ≡ length events → StartsAtZero starts events → StartsAtZero (starts ++ place ∷ []) events
 StartsAtZero-begin [] events place at_end h = at_end ∙ ap length h

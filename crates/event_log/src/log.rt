@@ -1,4 +1,4 @@
-ghost use Rattle.std.specs.Prelude.{◌≡◌, ◌≤◌, ◌<◌, ◌+◌, [], length, map, All, Some, slice_get, slice_index, slice_index_or, IfOk, IfErr, OnOk, OnErr};
+ghost use Rattle.std.specs.Prelude.{◌≡◌, ◌≤◌, ◌<◌, ◌+◌, [], ◌∷◌, ◌++◌, length, map, All, Some, slice_get, slice_index, slice_index_or, IfOk, IfErr, OnOk, OnErr};
 ghost use Rattle.event_log.specs.Logs.{events_of};
 ghost use Rattle.event_log.specs.Log.{with_trace, with_event, cut_at, AscendsTo, BeginCause, PushCause};
 
@@ -77,6 +77,21 @@ impl Log {
             });
         }
         self.events.push(id)?;
+        Ok(())
+    }
+
+    /// Puts a whole trace at the end.
+    pub fn push_trace(&mut self, trace: &[u32]) -> Result<(), Refusal>
+        requires traces { length self.old.traces < self.old.trace_limit }
+        requires events { length (events_of self.old.traces) + length trace.now ≤ self.old.event_limit }
+        ensures ok { OnOk result (self.new ≡ record self.old { traces = self.old.traces ++ trace.now ∷ [] }) }
+        ensures err { OnErr result (self.new ≡ self.old) }
+        ensures cause { IfErr result (λ e. e ≡ Refusal.Memory) }
+    {
+        self.starts.reserve(1)?;
+        let start = self.events.len();
+        self.events.extend_from_slice(trace)?;
+        self.starts.push(start)?;
         Ok(())
     }
 

@@ -23,13 +23,12 @@ fn keeps_traces(rt: HostRuntime) -> Result<(), Fail> {
     let mut log = Log::new(rt.alloc(), 2, 2);
     log.begin_trace()?;
     log.push_event(1)?;
-    log.push_event(0)?;
+    log.push_trace(&[0])?;
     assert_eq!(rt; log.push_event(0), Err(Refusal::Events { limit: 2 }));
-    log.begin_trace()?;
     assert_eq!(rt; log.begin_trace(), Err(Refusal::Traces { limit: 2 }));
     assert_eq!(rt; log.event_count(), 2);
     assert_eq!(rt; log.traces(), 2);
-    assert_eq!(rt; log.trace(0), [1, 0].as_slice());
+    assert_eq!(rt; log.trace(1), [0].as_slice());
     assert_eq!(rt; Log::new(rt.alloc(), 1, 1).ranked(&[])?.traces(), 0);
     Ok(())
 }

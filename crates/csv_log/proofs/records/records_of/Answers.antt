@@ -11,6 +11,7 @@ returns c =
       plain = rw setup at made.trim ∙ c.new.ensures.trim;
       ready = inr (inr (rw setup at made.has_headers, made.headers));
       setup = rw setup at made.config ∙ c.new.ensures.config;
+      flexible = rw setup at made.flexible;
       left = strip_bom c.args.text.now;
       source = made.source;
       reached = (sym made.state, refl);

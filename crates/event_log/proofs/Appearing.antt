@@ -1,0 +1,103 @@
+-- Names that appear one after another: each that is new goes last.
+use Rattle.std.proofs.Common.{◌≡◌, ℕ, suc, ◌+◌, ◌<◌, ◌≤◌, List, [], ◌∷◌, ◌++◌, Bool, true, false, cond, eqb, not, ◌||◌, fold, length, refl, sym, ap, ◌∙◌, arith, append-nil, append_assoc, true≢false}
+use Rattle.std.specs.Prelude.{slice_index_or}
+use Rattle.std.proofs.lemmas.Bool.{eqb-true, ne_eqb}
+use Rattle.std.proofs.lemmas.List.{get_or_append_left, length_push}
+use Rattle.std.proofs.lemmas.List.Folds.{list_any_at, position_or_len_push}
+use Rattle.std.proofs.lemmas.List.Sums.{passes_at_first}
+use Rattle.std.specs.Cmp.Lexicographic.{bytes_decides}
+use Rattle.std.specs.Str.{bytes_eq}
+use Rattle.event_log.specs.Logs.{events_of, has_name, place_of, with_name}
+
+pub events_of-append : {A : Type 0} (front more : List (List A)) → events_of (front ++ more) ≡ events_of front ++ events_of more
+events_of-append [] more = refl
+events_of-append (trace ∷ front) more = ap (λ l. trace ++ l) (events_of-append front more) ∙ sym (append_assoc trace (events_of front) (events_of more))
+
+pub events_of-push : {A : Type 0} (traces : List (List A)) (trace : List A) → events_of (traces ++ trace ∷ []) ≡ events_of traces ++ trace
+events_of-push traces trace = events_of-append traces (trace ∷ []) ∙ ap (λ l. events_of traces ++ l) (append-nil trace)
+
+-- ---- one name more
+
+pub with_name-least : (names : List (List ℕ)) (name : List ℕ) → length names ≤ length (with_name names name)
+with_name-least names name =
+    elim (has_name names name) as (λ v. length names ≤ length (cond v names (names ++ name ∷ []))) [
+      | true ↦ omega arith
+      | false ↦ omega (arith, length_push names name)
+    ]
+
+-- a new name makes them one more
+pub with_name-new : (names : List (List ℕ)) (name : List ℕ) → has_name names name ≡ false → length (with_name names name) ≡ length names + 1
+with_name-new names name new = ap (λ b. length (cond b names (names ++ name ∷ []))) new ∙ length_push names name
+
+pub with_name-keeps : (names : List (List ℕ)) (name : List ℕ) (id : ℕ) → id < length names → slice_index_or (with_name names name) id [] ≡ slice_index_or names id []
+with_name-keeps names name id inside =
+    elim (has_name names name) as (λ v. slice_index_or (cond v names (names ++ name ∷ [])) id [] ≡ slice_index_or names id []) [
+      | true ↦ refl
+      | false ↦ get_or_append_left names (name ∷ []) [] id inside
+    ]
+
+-- ---- its place
+
+cond-push : (b : Bool) (y name : List ℕ) (names : List (List ℕ)) → cond b (y ∷ names) ((y ∷ names) ++ name ∷ []) ≡ y ∷ cond b names (names ++ name ∷ [])
+cond-push true y name names = refl
+cond-push false y name names = refl
+
+-- the name stands at its place
+pub place-with_name : (names : List (List ℕ)) (name : List ℕ) → (place_of names name < length (with_name names name)) × (slice_index_or (with_name names name) (place_of names name) [] ≡ name)
+place-with_name [] name = (omega arith, refl)
+place-with_name (y ∷ names) name =
+    elim (bytes_eq name y) as (λ v. bytes_eq name y ≡ v
+    → (cond (not v) (1 + place_of names name) 0 < length (cond (v || has_name names name) (y ∷ names) ((y ∷ names) ++ name ∷ [])))
+    × (slice_index_or (cond (v || has_name names name) (y ∷ names) ((y ∷ names) ++ name ∷ [])) (cond (not v) (1 + place_of names name) 0) [] ≡ name)) [
+      | true ↦ λ e. (omega arith, sym ((bytes_decides name y).0 e))
+      | false ↦ λ e.
+          let rest = place-with_name names name in
+          let pushed = cond-push (has_name names name) y name names in (
+            omega (arith, ap length pushed, rest.0),
+            ap (λ l. slice_index_or l (1 + place_of names name) []) pushed
+            ∙ ap (λ n. slice_index_or (y ∷ with_name names name) n []) {x = 1 + place_of names name} {y = suc (place_of names name)} (omega arith) ∙ rest.1,
+          )
+    ] refl
+
+has_name-at_place : (names : List (List ℕ)) (name : List ℕ) → place_of names name < length names → has_name names name ≡ true
+has_name-at_place names name inside = list_any_at (bytes_eq name) names (place_of names name) [] inside (passes_at_first (bytes_eq name) names [] inside)
+
+-- a name that is there isn't put in again
+pub with_name-known : (names : List (List ℕ)) (name : List ℕ) → place_of names name < length names → with_name names name ≡ names
+with_name-known names name inside = ap (λ b. cond b names (names ++ name ∷ [])) (has_name-at_place names name inside)
+
+-- it keeps its place
+pub place_of-keeps : (names : List (List ℕ)) (name other : List ℕ) → place_of names name < length names → place_of (with_name names other) name ≡ place_of names name
+place_of-keeps names name other inside =
+    elim (has_name names other) as (λ v. place_of (cond v names (names ++ other ∷ [])) name ≡ place_of names name) [
+      | true ↦ refl
+      | false ↦
+          position_or_len_push (bytes_eq name) names other
+          ∙ ap (λ b. cond b (length names + cond (bytes_eq name other) 0 1) (place_of names name)) (ne_eqb (place_of names name) (length names) (λ e. absurd (omega (arith, e))))
+    ]
+
+same_place : (found at_end : Bool) (place count : ℕ) → found ≡ true → eqb place count ≡ at_end → cond at_end (count + cond found 0 1) place ≡ place
+same_place true true place count f e = omega (arith, eqb-true place count e)
+same_place false true place count f e = absurd (true≢false (sym f))
+same_place found false place count f e = refl
+
+-- a name that is put in stands where it was missed
+pub place_of-put : (names : List (List ℕ)) (name : List ℕ) → place_of (with_name names name) name ≡ place_of names name
+place_of-put names name =
+    elim (has_name names name) as (λ v. place_of (cond v names (names ++ name ∷ [])) name ≡ place_of names name) [
+      | true ↦ refl
+      | false ↦
+          position_or_len_push (bytes_eq name) names name
+          ∙ same_place (bytes_eq name name) (eqb (place_of names name) (length names)) (place_of names name) (length names) ((bytes_decides name name).1 refl) refl
+    ]
+
+-- ---- names more
+
+pub seen-least : (names events : List (List ℕ)) → length names ≤ length (fold with_name names events)
+seen-least names [] = omega arith
+seen-least names (event ∷ events) = omega (arith, with_name-least names event, seen-least (with_name names event) events)
+
+pub seen-keeps : (names events : List (List ℕ)) (id : ℕ) → id < length names → slice_index_or (fold with_name names events) id [] ≡ slice_index_or names id []
+seen-keeps names [] id inside = refl
+seen-keeps names (event ∷ events) id inside =
+    seen-keeps (with_name names event) events id (omega (arith, with_name-least names event)) ∙ with_name-keeps names event id inside

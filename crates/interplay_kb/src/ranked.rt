@@ -1,5 +1,5 @@
 ghost use Rattle.std.specs.Prelude.{◌≡◌, ◌≢◌, ◌<◌, ℕ, List, [], IfOk, IfErr, length};
-ghost use Rattle.interplay_kb.specs.Ranks.{AreRanks, TellsOf, IsTelling, rank_count, ranked};
+ghost use Rattle.interplay_kb.specs.Ranks.{AreRanks, TellsOf, IsTelling, kb_of, rank_count, ranked};
 ghost use Rattle.interplay_kb.specs.Stands.{StandsFor, IsBetweenTraces, activity_count};
 ghost use Rattle.template_core.specs.Counts.{unary_counts, pair_counts};
 
@@ -24,6 +24,7 @@ impl<'a> RankedKb<'a> {
         requires stands { IsBetweenTraces kb.now }
         ensures tells { IfOk result (λ counters. (ended : List (List ℕ)) → StandsFor kb.now ended [] → TellsOf counters (ranked ranks.now ended)) }
         ensures telling { IfOk result IsTelling }
+        ensures kb { IfOk result (λ counters. kb_of counters ≡ kb.now) }
         ensures count { IfOk result (λ counters. rank_count counters ≡ activity_count kb.now) }
         ensures err { IfErr result (λ e. e ≡ Refusal.Memory) }
     {

@@ -1,6 +1,6 @@
 ghost use Rattle.std.specs.Prelude.{◌≡◌, ◌≢◌, ◌<◌, ◌++◌, [], List, ℕ, map, string_bytes, length, IfOk, IfErr, OnOk};
 ghost use Rattle.std.specs.List.{flat_map, range_with_len};
-ghost use Rattle.interplay_kb.specs.Ranks.{AreRanks, TellsOf, ranked};
+ghost use Rattle.interplay_kb.specs.Ranks.{AreRanks, TellsOf, IsTelling, rank_count, ranked};
 ghost use Rattle.interplay_kb.specs.Stands.{StandsFor, IsBetweenTraces, activity_count};
 ghost use Rattle.report_text.specs.Fields.{quoted};
 ghost use Rattle.report_text.specs.KbTable.{activity_line, pair_line, pair_lines, kb_text};
@@ -8,7 +8,7 @@ ghost use Rattle.report_text.specs.KbTable.{activity_line, pair_line, pair_lines
 use crate::fields::{put_columns, put_number, quote_all};
 use decl_base::Refusal;
 use event_log::Alphabet;
-use interplay_kb::{Kb, ids_by_rank};
+use interplay_kb::{Kb, RankedKb};
 use std::alloc::{AllocError, Global};
 
 const ACTIVITY_HEADING: &str =
@@ -27,32 +27,31 @@ pub fn kb_table(alloc: Global, names: &Alphabet, kb: &Kb, ranks: &[u32]) -> Resu
         → text.items ≡ kb_text names.now.names (ranked ranks.now ended)) }
     ensures err { IfErr result (λ e. e ≡ Refusal.Memory) }
 {
-    let ids = ids_by_rank(alloc, ranks)?;
+    let counters = RankedKb::of(alloc, kb, ranks)?;
     let texts = quote_all(alloc, names)?;
     let mut out = Vec::new(alloc);
     out.extend_from_slice(b"traces ")?;
-    put_number(&mut out, kb.traces())?;
+    put_number(&mut out, counters.traces())?;
     out.extend_from_slice(b"\n")?;
     out.extend_from_slice(ACTIVITY_HEADING.as_bytes())?;
-    put_activities(&mut out, kb, &ids, &texts)?;
+    put_activities(&mut out, &counters, &texts)?;
     out.extend_from_slice(PAIR_HEADING.as_bytes())?;
-    put_all_pairs(&mut out, kb, &ids, &texts)?;
+    put_all_pairs(&mut out, &counters, &texts)?;
     Ok(out)
 }
 
 fn put_activities(
     out: &mut Vec<u8>,
-    kb: &Kb,
-    ids: &[u32],
+    counters: &RankedKb,
     texts: &[String],
 ) -> Result<(), AllocError>
-    requires told { (log : List (List ℕ)) × TellsOf kb.now ids.now log }
-    requires texts { length texts.now ≡ activity_count kb.now }
-    ensures { OnOk result ((names log : List (List ℕ)) → map string_bytes texts.now ≡ map quoted names → TellsOf kb.now ids.now log
+    requires telling { IsTelling counters.now }
+    requires texts { length texts.now ≡ rank_count counters.now }
+    ensures { OnOk result ((names log : List (List ℕ)) → map string_bytes texts.now ≡ map quoted names → TellsOf counters.now log
         → out.new.items ≡ out.old.items ++ flat_map (activity_line names log) (range_with_len 0 (length texts.now))) }
 {
     for rank in 0..texts.len() {
-        put_activity(out, kb, ids, texts, rank)?;
+        put_activity(out, counters, texts, rank)?;
     }
     Ok(())
 }
@@ -60,18 +59,17 @@ fn put_activities(
 /// The line of the activity of a rank.
 fn put_activity(
     out: &mut Vec<u8>,
-    kb: &Kb,
-    ids: &[u32],
+    counters: &RankedKb,
     texts: &[String],
     rank: usize,
 ) -> Result<(), AllocError>
-    requires told { (log : List (List ℕ)) × TellsOf kb.now ids.now log }
-    requires texts { length texts.now ≡ activity_count kb.now }
+    requires telling { IsTelling counters.now }
+    requires texts { length texts.now ≡ rank_count counters.now }
     requires rank { rank < length texts.now }
-    ensures { OnOk result ((names log : List (List ℕ)) → map string_bytes texts.now ≡ map quoted names → TellsOf kb.now ids.now log
+    ensures { OnOk result ((names log : List (List ℕ)) → map string_bytes texts.now ≡ map quoted names → TellsOf counters.now log
         → out.new.items ≡ out.old.items ++ activity_line names log rank) }
 {
-    let counts = kb.unary(ids[rank]);
+    let counts = counters.unary(rank as u32);
     let numbers = [
         counts.occurrences,
         counts.traces,
@@ -85,19 +83,14 @@ fn put_activity(
     Ok(())
 }
 
-fn put_all_pairs(
-    out: &mut Vec<u8>,
-    kb: &Kb,
-    ids: &[u32],
-    texts: &[String],
-) -> Result<(), AllocError>
-    requires told { (log : List (List ℕ)) × TellsOf kb.now ids.now log }
-    requires texts { length texts.now ≡ activity_count kb.now }
-    ensures { OnOk result ((names log : List (List ℕ)) → map string_bytes texts.now ≡ map quoted names → TellsOf kb.now ids.now log
+fn put_all_pairs(out: &mut Vec<u8>, counters: &RankedKb, texts: &[String]) -> Result<(), AllocError>
+    requires telling { IsTelling counters.now }
+    requires texts { length texts.now ≡ rank_count counters.now }
+    ensures { OnOk result ((names log : List (List ℕ)) → map string_bytes texts.now ≡ map quoted names → TellsOf counters.now log
         → out.new.items ≡ out.old.items ++ flat_map (pair_lines names log) (range_with_len 0 (length texts.now))) }
 {
     for rank in 0..texts.len() {
-        put_pairs(out, kb, ids, texts, rank)?;
+        put_pairs(out, counters, texts, rank)?;
     }
     Ok(())
 }
@@ -105,20 +98,19 @@ fn put_all_pairs(
 /// The lines of the pairs of an activity with each other one.
 fn put_pairs(
     out: &mut Vec<u8>,
-    kb: &Kb,
-    ids: &[u32],
+    counters: &RankedKb,
     texts: &[String],
     first: usize,
 ) -> Result<(), AllocError>
-    requires told { (log : List (List ℕ)) × TellsOf kb.now ids.now log }
-    requires texts { length texts.now ≡ activity_count kb.now }
+    requires telling { IsTelling counters.now }
+    requires texts { length texts.now ≡ rank_count counters.now }
     requires first { first < length texts.now }
-    ensures { OnOk result ((names log : List (List ℕ)) → map string_bytes texts.now ≡ map quoted names → TellsOf kb.now ids.now log
+    ensures { OnOk result ((names log : List (List ℕ)) → map string_bytes texts.now ≡ map quoted names → TellsOf counters.now log
         → out.new.items ≡ out.old.items ++ pair_lines names log first) }
 {
     for second in 0..texts.len() {
         if first != second {
-            put_pair(out, kb, ids, texts, first, second)?;
+            put_pair(out, counters, texts, first, second)?;
         }
     }
     Ok(())
@@ -127,21 +119,20 @@ fn put_pairs(
 /// The line of a pair.
 fn put_pair(
     out: &mut Vec<u8>,
-    kb: &Kb,
-    ids: &[u32],
+    counters: &RankedKb,
     texts: &[String],
     first: usize,
     second: usize,
 ) -> Result<(), AllocError>
-    requires told { (log : List (List ℕ)) × TellsOf kb.now ids.now log }
-    requires texts { length texts.now ≡ activity_count kb.now }
+    requires telling { IsTelling counters.now }
+    requires texts { length texts.now ≡ rank_count counters.now }
     requires first { first < length texts.now }
     requires second { second < length texts.now }
     requires differ { first ≢ second }
-    ensures { OnOk result ((names log : List (List ℕ)) → map string_bytes texts.now ≡ map quoted names → TellsOf kb.now ids.now log
+    ensures { OnOk result ((names log : List (List ℕ)) → map string_bytes texts.now ≡ map quoted names → TellsOf counters.now log
         → out.new.items ≡ out.old.items ++ pair_line names log first second) }
 {
-    let counts = kb.pair(ids[first], ids[second]);
+    let counts = counters.pair(first as u32, second as u32);
     let numbers = [
         counts.without,
         counts.no_later,

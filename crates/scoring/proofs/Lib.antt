@@ -1,10 +1,9 @@
-pub mod Renaming
 pub mod Orders
 pub mod Priorities
-pub mod Numbers
 pub mod Listing
 pub mod Members
+pub mod Numbers
 pub mod Reaching
 pub mod Counting
-pub mod Finding
-pub mod Ranking
+pub mod ByPair
+pub mod Searching

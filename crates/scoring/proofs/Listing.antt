@@ -19,7 +19,7 @@ pub all_and : {X : Type 0} (P Q : X → Type 0) → ((x : X) → P x → Q x) �
 all_and P Q h [] all = tt
 all_and P Q h (x ∷ xs) all = (h x all.0, all_and P Q h xs all.1)
 
-all-append : {X : Type 0} (P : X → Type 0) (xs ys : List X) → AllByRecursion P xs → AllByRecursion P ys → AllByRecursion P (xs ++ ys)
+pub all-append : {X : Type 0} (P : X → Type 0) (xs ys : List X) → AllByRecursion P xs → AllByRecursion P ys → AllByRecursion P (xs ++ ys)
 all-append P [] ys h k = k
 all-append P (x ∷ xs) ys h k = (h.0, all-append P xs ys h.1 k)
 
@@ -127,9 +127,12 @@ sorted-range : (a n : ℕ) → IsStrictlySortedBy nat_cmp (range_with_len a n)
 sorted-range a zero = sorted-nil nat_cmp
 sorted-range a (suc n) = sorted-cons nat_cmp a (range_with_len (a + 1) n) (from_range (a + 1) n a (omega arith)) (sorted-range (a + 1) n)
 
-pub below-range : (a n : ℕ) → AllByRecursion (λ y. y < a + n) (range_with_len a n)
+below-range : (a n : ℕ) → AllByRecursion (λ y. y < a + n) (range_with_len a n)
 below-range a zero = tt
 below-range a (suc n) = (omega arith, all_and (λ y. y < a + 1 + n) (λ y. y < a + suc n) (λ y h. omega arith) (range_with_len (a + 1) n) (below-range (a + 1) n))
+
+pub each_below : (n : ℕ) → AllByRecursion (λ k. k < n) (range_with_len 0 n)
+each_below n = all_and (λ k. k < 0 + n) (λ k. k < n) (λ k h. omega arith) (range_with_len 0 n) (below-range 0 n)
 
 abbrev number_cmp : Kind → Kind → Ordering
 number_cmp = on number_of nat_cmp

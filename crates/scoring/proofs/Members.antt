@@ -14,7 +14,7 @@ use Rattle.scoring.specs.Candidates.{takes, constraint_of, constraints_from, con
 use Rattle.scoring.specs.Priority.{priority_cmp, insert_in_order, in_order}
 use Rattle.scoring.specs.Scores.{scored_from, scored}
 use Rattle.scoring.specs.declared.scored.Scored.{Scored}
-use Rattle.scoring.proofs.Listing.{all_and, all-any, all-map, all-filter, all-flat_map, below-range}
+use Rattle.scoring.proofs.Listing.{all-any, all-map, all-filter, all-flat_map, each_below}
 use Rattle.scoring.proofs.Orders.{in_order-all}
 
 Contains-here : {X : Type 0} (x : X) (xs : List X) → Contains (x ∷ xs) x
@@ -115,11 +115,8 @@ over_all n =
     (λ kind _. all-flat_map (λ first. first < n) (IsConstraintOver n) (constraints_from n kind)
     (λ first h. all-map (λ second. (second < n) × (takes kind first second ≡ true)) (IsConstraintOver n) (constraint_of kind first)
     (λ second k. record { first = h; second = k.0; takes = k.1 }) (filter (takes kind first) (range_with_len 0 n))
-    (all-filter (λ second. second < n) (λ second. (second < n) × (takes kind first second ≡ true)) (takes kind first) (λ second k e. (k, e)) (range_with_len 0 n) (below n)))
-    (range_with_len 0 n) (below n)) all_kinds (all-any (λ _. ⊤) (λ _. tt) all_kinds)
-  where
-    below : (n : ℕ) → AllByRecursion (λ k. k < n) (range_with_len 0 n)
-    below n = all_and (λ k. k < 0 + n) (λ k. k < n) (λ k h. omega arith) (range_with_len 0 n) (below-range 0 n)
+    (all-filter (λ second. second < n) (λ second. (second < n) × (takes kind first second ≡ true)) (takes kind first) (λ second k e. (k, e)) (range_with_len 0 n) (each_below n)))
+    (range_with_len 0 n) (each_below n)) all_kinds (all-any (λ _. ⊤) (λ _. tt) all_kinds)
 
 from_all : {X : Type 0} (P : X → Type 0) (xs : List X) (x : X) → AllByRecursion P xs → Contains xs x → P x
 from_all P xs x all h = All-contains P xs x (All-from_recursion P xs all) h

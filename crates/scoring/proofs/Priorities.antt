@@ -1,5 +1,5 @@
 -- The order of priority puts each list of candidates into one order.
-use Rattle.std.proofs.Common.{◌≡◌, ℕ, zero, suc, ◌-◌, ◌<◌, List, [], ◌∷◌, cond, get_or, fold, Less, Equal, Greater, Ordering, nat_cmp, refl, sym, ap, ap₂, ◌∙◌, arith}
+use Rattle.std.proofs.Common.{◌≡◌, ℕ, zero, suc, ◌-◌, ◌<◌, List, [], ◌∷◌, Bool, cond, get_or, count_by, fold, Less, Equal, Greater, Ordering, nat_cmp, refl, sym, ap, ap₂, ◌∙◌, arith}
 use Rattle.std.specs.Cmp.{IsTotalOrder, nat_cmp_total, then_total, back_total, on_total}
 use Rattle.std.specs.List.{AllByRecursion}
 use Rattle.std.specs.List.Sorted.{IsPermutation, IsSortedBy}
@@ -162,3 +162,16 @@ sorted_is log xs ys all moved sorted =
     (in_order-rises sound_priority sound_priority-total xs)
     (λ z. sum_by-IsPermutation (λ s. cond (eq_by_cmp sound_priority z s) 1 0) xs ys moved ∙ sym (in_order-count sound_priority (eq_by_cmp sound_priority z) xs))
     ∙ sym (in_order-agree priority_cmp sound_priority P (λ s t p q. sound_priority-agrees s t p.has q.has) xs all)
+
+-- the order of a list with the same elements says nothing about what it is in order of priority
+pub in_order-same : (log : List (List ℕ)) (xs ys : List Scored) → AllByRecursion (IsScored log) xs → AllByRecursion (IsScored log) ys
+    → ((p : Scored → Bool) → count_by p xs ≡ count_by p ys) → in_order priority_cmp xs ≡ in_order priority_cmp ys
+in_order-same log xs ys all others same =
+    let P : Scored → Type 0 = IsScored log in
+    let agree : (s t : Scored) → P s → P t → priority_cmp s t ≡ sound_priority s t = λ s t p q. sound_priority-agrees s t p.has q.has in
+    in_order-agree priority_cmp sound_priority P agree xs all
+    ∙ same_in_order sound_priority sound_priority-total P (scored-same log) (in_order sound_priority xs) (in_order sound_priority ys)
+    (in_order-all sound_priority P xs all) (in_order-all sound_priority P ys others) (in_order-rises sound_priority sound_priority-total xs)
+    (in_order-rises sound_priority sound_priority-total ys)
+    (λ z. in_order-count sound_priority (eq_by_cmp sound_priority z) xs ∙ same (eq_by_cmp sound_priority z) ∙ sym (in_order-count sound_priority (eq_by_cmp sound_priority z) ys))
+    ∙ sym (in_order-agree priority_cmp sound_priority P agree ys others)

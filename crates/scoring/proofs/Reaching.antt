@@ -8,21 +8,20 @@ use Rattle.std.specs.declared.cmp.Ordering.{Ordering}
 use Rattle.std.specs.declared.cmp.Ordering.TheVariants.{Less, Equal, Greater}
 use Rattle.std.proofs.Math.Nat.{mul-le-mul_right, le_of_mul-le-mul_right}
 use Rattle.std.proofs.lemmas.Bool.Decides.{leb_tells}
-use Rattle.std.proofs.lemmas.List.Sums.{count_by-le-length}
 use Rattle.decl_base.specs.Fraction.{lowest_terms, greatest_common_divisor}
 use Rattle.decl_base.specs.Threshold.{is_met}
 use Rattle.decl_base.specs.declared.threshold.Thresholds.{Thresholds}
 use Rattle.decl_base.proofs.Divisors.{IsMultiple-of_lowest}
-use Rattle.template_core.specs.Events.{occurs}
 use Rattle.template_core.specs.Repertoire.{activated}
 use Rattle.template_core.specs.declared.constraint.Constraint.{Constraint}
 use Rattle.scoring.specs.Candidates.{constraints_over, IsConstraintOver, reaches_all, reaching, candidates_of, EachOccurs}
 use Rattle.scoring.specs.Priority.{constraint_cmp, priority_cmp, in_order}
 use Rattle.scoring.specs.Scores.{scored_from, scored, HasScores, IsScored}
+use Rattle.scoring.specs.Search.{reaching_of}
 use Rattle.scoring.specs.declared.scored.Scored.{Scored}
 use Rattle.scoring.proofs.Listing.{all-map, all-filter, once_from_strictly, sorted-over}
 use Rattle.scoring.proofs.Members.{over_all, scored-constraint}
-use Rattle.scoring.proofs.Numbers.{activated-some}
+use Rattle.scoring.proofs.Numbers.{activated_over, traces_over}
 use Rattle.scoring.proofs.Orders.{count-cons, tied, in_order-count, in_order-rises, in_order-all, strictly_from_rises}
 use Rattle.scoring.proofs.Priorities.{sound_priority, sound_priority-total, sound_priority-agrees, sound_priority-constraint, constraint_total, in_order-agree}
 
@@ -73,16 +72,23 @@ HasScores-scored log c some traces =
 pub IsScored-scored : (log : List (List ℕ)) (n : ℕ) (c : Constraint) → EachOccurs n log → IsConstraintOver n c → IsScored log (scored log c)
 IsScored-scored log n c each over = record {
   scores = ap (scored log) (sym (scored-constraint log c));
-  has =
-      HasScores-scored log c (activated-some nat_eq c.kind c.first c.second log (each c.first over.first) (each c.second over.second))
-      (omega (arith, each c.first over.first, count_by-le-length (occurs nat_eq c.first) log));
+  has = HasScores-scored log c (activated_over log n c each over) (traces_over log n c each over);
 }
 
+pub reaching_of-scored : (log : List (List ℕ)) (n : ℕ) (thresholds : Thresholds) (cs : List Constraint) → EachOccurs n log → AllByRecursion (IsConstraintOver n) cs
+    → AllByRecursion (IsScored log) (reaching_of log thresholds cs)
+unfolding reaching_of
+reaching_of-scored log n thresholds cs each all =
+    all-filter (IsScored log) (IsScored log) (reaches_all thresholds) (λ s h e. h) (map (scored log) cs)
+    (all-map (IsConstraintOver n) (IsScored log) (scored log) (λ c over. IsScored-scored log n c each over) cs all)
+
+pub reaching-is : (log : List (List ℕ)) (n : ℕ) (thresholds : Thresholds) → reaching log n thresholds ≡ reaching_of log thresholds (constraints_over n)
+unfolding reaching reaching_of
+reaching-is log n thresholds = refl
+
 pub reaching_scored : (log : List (List ℕ)) (n : ℕ) (thresholds : Thresholds) → EachOccurs n log → AllByRecursion (IsScored log) (reaching log n thresholds)
-unfolding reaching
 reaching_scored log n thresholds each =
-    all-filter (IsScored log) (IsScored log) (reaches_all thresholds) (λ s h e. h) (map (scored log) (constraints_over n))
-    (all-map (IsConstraintOver n) (IsScored log) (scored log) (λ c over. IsScored-scored log n c each over) (constraints_over n) (over_all n))
+    subst (AllByRecursion (IsScored log)) (sym (reaching-is log n thresholds)) (reaching_of-scored log n thresholds (constraints_over n) each (over_all n))
 
 -- no two candidates tie
 tied_constraint : (log : List (List ℕ)) (p : Scored → Bool) (z : Scored) (cs : List Constraint)

@@ -1,6 +1,7 @@
 pub mod Scores
 pub mod Candidates
 pub mod Priority
-pub mod Ids
+pub mod Conditions
 pub mod Found
+pub mod Search
 pub mod Scorable

@@ -10,6 +10,9 @@ mod search;
 mod selection;
 
 pub use decl_base::Thresholds;
-pub use laws::{candidates_ascend, candidates_of_log, constraints_ascend, constraints_over_ranks};
+pub use laws::{
+    candidates_ascend, candidates_of_log, constraints_activated, constraints_ascend,
+    constraints_over_ranks,
+};
 pub use scored::Scored;
 pub use selection::candidates;

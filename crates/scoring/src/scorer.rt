@@ -1,60 +1,14 @@
-ghost use Rattle.std.specs.Prelude.{◌≡◌, ◌<◌, ◌≤◌, ◌*◌, ◌^◌, ◌&&◌, ℕ, List, [], true, Some, None, if◌then◌else◌};
+ghost use Rattle.std.specs.Prelude.{◌≡◌, ◌<◌, ◌≤◌, ◌*◌, ◌^◌, ◌&&◌, Some, None, if◌then◌else◌};
 ghost use Rattle.decl_base.specs.Threshold.{is_met};
-ghost use Rattle.interplay_kb.specs.Stands.{StandsFor, IsBetweenTraces, activity_count};
-ghost use Rattle.template_core.specs.Constraints.{IsWellMade};
-ghost use Rattle.template_core.specs.Counts.{counts_of, pair_of};
-ghost use Rattle.template_core.specs.declared.kind.Kind.{Kind as KindOf};
-ghost use Rattle.template_set.specs.Numbers.{numbers_of};
 ghost use Rattle.scoring.specs.Candidates.{reaches_all};
-ghost use Rattle.scoring.specs.Ids.{AreThresholds};
+ghost use Rattle.scoring.specs.Conditions.{AreThresholds};
 ghost use Rattle.scoring.specs.Scores.{scored_from};
 ghost use Rattle.scoring.specs.Scorable.{IsScorable, IsPart};
 
 use crate::Scored;
 use decl_base::{Frac, Threshold, Thresholds};
-use interplay_kb::Kb;
-use template_core::{Constraint, Counts, Kind, PairCounts};
-use template_set::{Numbers, counts_of};
-
-/// The counters of a template of one activity have no pair.
-const NO_PAIR: PairCounts = PairCounts {
-    without: 0,
-    no_later: 0,
-    no_earlier: 0,
-    next: 0,
-    previous: 0,
-    rep_later: 0,
-    rep_earlier: 0,
-    together: 0,
-};
-
-/// The counters of the ordered pair of two ids; none where they are one.
-fn pair(kb: &Kb, a: u32, b: u32) -> PairCounts
-    requires first { a < activity_count kb.now }
-    requires second { b < activity_count kb.now }
-    requires stands { IsBetweenTraces kb.now }
-    ensures { (ended : List (List ℕ)) (kind : KindOf) → StandsFor kb.now ended [] → IsWellMade kind a b → result ≡ pair_of kind a b ended }
-{
-    if a == b { NO_PAIR } else { kb.pair(a, b) }
-}
-
-/// The numbers of a constraint over two ids.
-pub(crate) fn numbers(kb: &Kb, kind: Kind, a: u32, b: u32) -> Numbers
-    requires first { a < activity_count kb.now }
-    requires second { b < activity_count kb.now }
-    requires made { IsWellMade kind a b }
-    requires stands { IsBetweenTraces kb.now }
-    ensures { (ended : List (List ℕ)) → StandsFor kb.now ended [] → result ≡ numbers_of kind a b ended }
-{
-    let counts = Counts {
-        traces: kb.traces(),
-        first: kb.unary(a),
-        second: kb.unary(b),
-        onward: pair(kb, a, b),
-        back: pair(kb, b, a),
-    };
-    counts_of(kind, &counts)
-}
+use template_core::Constraint;
+use template_set::Numbers;
 
 /// A score before it is put into lowest terms.
 #[derive(Clone, Copy)]

@@ -1,84 +1,136 @@
-ghost use Rattle.std.specs.Prelude.{◌≡◌, ◌<◌, ◌≤◌, ◌+◌, ◌^◌, ℕ, List, [], ◌∷◌, ◌++◌, Some, None, OnOk, IfErr, if◌then◌else◌};
-ghost use Rattle.interplay_kb.specs.Stands.{StandsFor, activity_count};
-ghost use Rattle.template_set.specs.Names.{all_kinds};
-ghost use Rattle.scoring.specs.Candidates.{takes, constraints_from, constraints_of, constraints_over, IsConstraintOver, reaches_all};
-ghost use Rattle.scoring.specs.Found.{Holds};
-ghost use Rattle.scoring.specs.Ids.{taken, scored_by, reaching_by, IsReady};
-ghost use Rattle.scoring.specs.declared.scored.Scored.{Scored as ScoredOf};
+ghost use Rattle.std.specs.Prelude.{◌≡◌, ◌≢◌, ◌<◌, ◌≤◌, ◌+◌, ◌^◌, ℕ, List, Some, None, OnOk, IfErr, if◌then◌else◌};
+ghost use Rattle.interplay_kb.specs.Ranks.{TellsOf, rank_count};
+ghost use Rattle.scoring.specs.Candidates.{takes, IsConstraintOver, reaches_all};
+ghost use Rattle.scoring.specs.Scores.{scored};
+ghost use Rattle.scoring.specs.Search.{taken, constraints_at, constraints_of_two, constraints_with_smaller, constraints_by_pair, turned, HasCounts, IsReady, Finds};
 
 use crate::Scored;
 use crate::found::Found;
-use crate::scorer::{numbers, reaching};
+use crate::scorer::reaching;
 use decl_base::{Refusal, Thresholds};
-use interplay_kb::Kb;
-use template_core::{Constraint, Kind};
-use template_set::kinds;
+use interplay_kb::RankedKb;
+use template_core::{Constraint, Counts, Kind, PairCounts};
+use template_set::{counts_of, kinds};
 
-/// What the candidates are made from. `ids` has the id of each rank.
+/// The counters of a template of one activity have no pair.
+const NO_PAIR: PairCounts = PairCounts {
+    without: 0,
+    no_later: 0,
+    no_earlier: 0,
+    next: 0,
+    previous: 0,
+    rep_later: 0,
+    rep_earlier: 0,
+    together: 0,
+};
+
+/// The same counters for the two activities in the other order.
+fn turned(counts: &Counts) -> Counts
+    ensures { result ≡ turned counts.now }
+{
+    Counts {
+        traces: counts.traces,
+        first: counts.second,
+        second: counts.first,
+        onward: counts.back,
+        back: counts.onward,
+    }
+}
+
+/// What the candidates are made from. It goes over the pairs of ranks once, and over the templates at each.
 #[derive(Clone, Copy)]
 pub(crate) struct Search<'a> {
-    pub kb: &'a Kb,
-    pub ids: &'a [u32],
+    pub counters: &'a RankedKb<'a>,
     pub thresholds: &'a Thresholds,
 }
 
 impl Search<'_> {
-    /// Finds the candidates of all templates.
+    /// Finds the candidates of all ranks.
     pub fn all(&self, found: &mut Found) -> Result<(), Refusal>
-        requires ready { IsReady self.now.kb.now self.now.ids.now self.now.thresholds.now }
+        requires ready { IsReady self.now.counters.now self.now.thresholds.now }
         requires room { found.old.count ≡ 0 }
-        ensures holds { OnOk result ((ended : List (List ℕ)) (before : List ScoredOf) → StandsFor self.now.kb.now ended [] → Holds found.old before
-            → Holds found.new (before ++ reaching_by self.now.ids.now ended self.now.thresholds.now (constraints_over (activity_count self.now.kb.now)))) }
+        ensures finds { OnOk result (Finds self.now.counters.now self.now.thresholds.now
+            (constraints_by_pair (rank_count self.now.counters.now)) found.old found.new) }
         ensures limit { found.new.limit ≡ found.old.limit }
+        ensures err { IfErr result (λ e. e ≡ Refusal.Memory) }
+    {
+        for rank in 0..self.counters.activities() {
+            self.of_rank(rank, found)?;
+        }
+        Ok(())
+    }
+
+    /// Finds those of an activity alone, and those of it and each of smaller rank.
+    fn of_rank(&self, rank: u32, found: &mut Found) -> Result<(), Refusal>
+        requires ready { IsReady self.now.counters.now self.now.thresholds.now }
+        requires known { rank < rank_count self.now.counters.now }
+        requires room { found.old.count ≤ 2 ^ 40 }
+        ensures finds { OnOk result (Finds self.now.counters.now self.now.thresholds.now
+            (constraints_with_smaller rank) found.old found.new) }
+        ensures limit { found.new.limit ≡ found.old.limit }
+        ensures count { OnOk result (found.new.count ≤ found.old.count + 40000) }
+        ensures err { IfErr result (λ e. e ≡ Refusal.Memory) }
+    {
+        let alone = self.alone(rank);
+        self.at(rank, rank, &alone, found)?;
+        for smaller in 0..rank {
+            self.of_two(smaller, rank, found)?;
+        }
+        Ok(())
+    }
+
+    /// Finds those of two activities, in both orders.
+    fn of_two(&self, low: u32, high: u32, found: &mut Found) -> Result<(), Refusal>
+        requires ready { IsReady self.now.counters.now self.now.thresholds.now }
+        requires order { low < high }
+        requires known { high < rank_count self.now.counters.now }
+        requires room { found.old.count ≤ 2 ^ 40 + 40000 }
+        ensures finds { OnOk result (Finds self.now.counters.now self.now.thresholds.now
+            (constraints_of_two low high) found.old found.new) }
+        ensures limit { found.new.limit ≡ found.old.limit }
+        ensures count { OnOk result (found.new.count ≤ found.old.count + 36) }
+        ensures err { IfErr result (λ e. e ≡ Refusal.Memory) }
+    {
+        let counts = self.between(low, high);
+        self.at(low, high, &counts, found)?;
+        self.at(high, low, &turned(&counts), found)
+    }
+
+    /// Finds those of two ranks in this order; the ranks of one activity are the same.
+    fn at(&self, first: u32, second: u32, counts: &Counts, found: &mut Found) -> Result<(), Refusal>
+        requires ready { IsReady self.now.counters.now self.now.thresholds.now }
+        requires first { first < rank_count self.now.counters.now }
+        requires second { second < rank_count self.now.counters.now }
+        requires counts { HasCounts self.now.counters.now first second counts.now }
+        requires room { found.old.count ≤ 2 ^ 40 + 40018 }
+        ensures finds { OnOk result (Finds self.now.counters.now self.now.thresholds.now
+            (constraints_at first second) found.old found.new) }
+        ensures limit { found.new.limit ≡ found.old.limit }
+        ensures count { OnOk result (found.new.count ≤ found.old.count + 18) }
         ensures err { IfErr result (λ e. e ≡ Refusal.Memory) }
     {
         for kind in kinds() {
-            self.of_kind(kind, found)?;
-        }
-        Ok(())
-    }
-
-    /// Finds those of a template.
-    fn of_kind(&self, kind: Kind, found: &mut Found) -> Result<(), Refusal>
-        requires ready { IsReady self.now.kb.now self.now.ids.now self.now.thresholds.now }
-        requires room { found.old.count ≤ 2 ^ 39 }
-        ensures holds { OnOk result ((ended : List (List ℕ)) (before : List ScoredOf) → StandsFor self.now.kb.now ended [] → Holds found.old before
-            → Holds found.new (before ++ reaching_by self.now.ids.now ended self.now.thresholds.now (constraints_of (activity_count self.now.kb.now) kind))) }
-        ensures limit { found.new.limit ≡ found.old.limit }
-        ensures count { OnOk result (found.new.count ≤ found.old.count + 1000000) }
-        ensures err { IfErr result (λ e. e ≡ Refusal.Memory) }
-    {
-        for first in 0..self.kb.activities() {
-            self.from_rank(kind, first, found)?;
-        }
-        Ok(())
-    }
-
-    /// Finds those of a template that have this first rank.
-    fn from_rank(&self, kind: Kind, first: u32, found: &mut Found) -> Result<(), Refusal>
-        requires ready { IsReady self.now.kb.now self.now.ids.now self.now.thresholds.now }
-        requires known { first < activity_count self.now.kb.now }
-        requires room { found.old.count ≤ 2 ^ 40 }
-        ensures holds { OnOk result ((ended : List (List ℕ)) (before : List ScoredOf) → StandsFor self.now.kb.now ended [] → Holds found.old before
-            → Holds found.new (before ++ reaching_by self.now.ids.now ended self.now.thresholds.now (constraints_from (activity_count self.now.kb.now) kind first))) }
-        ensures limit { found.new.limit ≡ found.old.limit }
-        ensures count { OnOk result (found.new.count ≤ found.old.count + 1000) }
-        ensures err { IfErr result (λ e. e ≡ Refusal.Memory) }
-    {
-        for second in 0..self.kb.activities() {
-            self.visit(kind, first, second, found)?;
+            self.visit(kind, first, second, counts, found)?;
         }
         Ok(())
     }
 
     /// Adds the constraint of a template and two ranks, if it is a candidate.
-    fn visit(&self, kind: Kind, first: u32, second: u32, found: &mut Found) -> Result<(), Refusal>
-        requires ready { IsReady self.now.kb.now self.now.ids.now self.now.thresholds.now }
-        requires first { first < activity_count self.now.kb.now }
-        requires second { second < activity_count self.now.kb.now }
+    fn visit(
+        &self,
+        kind: Kind,
+        first: u32,
+        second: u32,
+        counts: &Counts,
+        found: &mut Found,
+    ) -> Result<(), Refusal>
+        requires ready { IsReady self.now.counters.now self.now.thresholds.now }
+        requires first { first < rank_count self.now.counters.now }
+        requires second { second < rank_count self.now.counters.now }
+        requires counts { HasCounts self.now.counters.now first second counts.now }
         requires room { found.old.count < 2 ^ 41 }
-        ensures holds { OnOk result ((ended : List (List ℕ)) (before : List ScoredOf) → StandsFor self.now.kb.now ended [] → Holds found.old before
-            → Holds found.new (before ++ reaching_by self.now.ids.now ended self.now.thresholds.now (taken kind first second))) }
+        ensures finds { OnOk result (Finds self.now.counters.now self.now.thresholds.now
+            (taken first second kind) found.old found.new) }
         ensures limit { found.new.limit ≡ found.old.limit }
         ensures count { OnOk result (found.new.count ≤ found.old.count + 1) }
         ensures err { IfErr result (λ e. e ≡ Refusal.Memory) }
@@ -86,27 +138,61 @@ impl Search<'_> {
         if !takes(kind, first, second) {
             return Ok(());
         }
-        match self.score(Constraint {
+        let constraint = Constraint {
             kind,
             first,
             second,
-        }) {
+        };
+        match self.score(constraint, counts) {
             Some(scored) => found.add(scored),
             None => Ok(()),
         }
     }
 
     /// The constraint with its scores, if these reach the thresholds.
-    fn score(&self, constraint: Constraint) -> Option<Scored>
-        requires ready { IsReady self.now.kb.now self.now.ids.now self.now.thresholds.now }
-        requires over { IsConstraintOver (activity_count self.now.kb.now) constraint }
-        ensures { (ended : List (List ℕ)) → StandsFor self.now.kb.now ended [] → let scored = scored_by self.now.ids.now ended constraint in
+    fn score(&self, constraint: Constraint, counts: &Counts) -> Option<Scored>
+        requires ready { IsReady self.now.counters.now self.now.thresholds.now }
+        requires over { IsConstraintOver (rank_count self.now.counters.now) constraint }
+        requires counts { HasCounts self.now.counters.now constraint.first constraint.second counts.now }
+        ensures { (log : List (List ℕ)) → TellsOf self.now.counters.now log → let scored = scored log constraint in
             result ≡ (if reaches_all self.now.thresholds.now scored then Some scored else None) }
     {
-        let a = self.ids[constraint.first as usize];
-        let b = self.ids[constraint.second as usize];
-        let numbers = numbers(self.kb, constraint.kind, a, b);
-        reaching(constraint, &numbers, self.kb.traces(), self.thresholds)
+        let numbers = counts_of(constraint.kind, counts);
+        reaching(constraint, &numbers, counts.traces, self.thresholds)
+    }
+
+    /// The counters of an activity, for the templates of one activity.
+    fn alone(&self, rank: u32) -> Counts
+        requires ready { IsReady self.now.counters.now self.now.thresholds.now }
+        requires known { rank < rank_count self.now.counters.now }
+        ensures { HasCounts self.now.counters.now rank rank result }
+    {
+        let activity = self.counters.unary(rank);
+        Counts {
+            traces: self.counters.traces(),
+            first: activity,
+            second: activity,
+            onward: NO_PAIR,
+            back: NO_PAIR,
+        }
+    }
+
+    /// The counters of two activities, for the templates of two.
+    fn between(&self, first: u32, second: u32) -> Counts
+        requires ready { IsReady self.now.counters.now self.now.thresholds.now }
+        requires first { first < rank_count self.now.counters.now }
+        requires second { second < rank_count self.now.counters.now }
+        requires differ { first ≢ second }
+        ensures onward { HasCounts self.now.counters.now first second result }
+        ensures back { HasCounts self.now.counters.now second first (turned result) }
+    {
+        Counts {
+            traces: self.counters.traces(),
+            first: self.counters.unary(first),
+            second: self.counters.unary(second),
+            onward: self.counters.pair(first, second),
+            back: self.counters.pair(second, first),
+        }
     }
 }
 

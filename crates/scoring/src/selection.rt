@@ -2,14 +2,14 @@ ghost use Rattle.std.specs.Prelude.{◌≡◌, ◌≤◌, ℕ, List, [], IfOk, I
 ghost use Rattle.interplay_kb.specs.Ranks.{AreRanks, ranked};
 ghost use Rattle.interplay_kb.specs.Stands.{StandsFor, activity_count};
 ghost use Rattle.scoring.specs.Candidates.{candidates_of, CandidatesCause};
-ghost use Rattle.scoring.specs.Ids.{HasEachEvent, AreThresholds};
+ghost use Rattle.scoring.specs.Conditions.{HasEachEvent, AreThresholds};
 
 use crate::Scored;
 use crate::found::Found;
 use crate::priority::sort;
 use crate::search::Search;
 use decl_base::{Refusal, Thresholds};
-use interplay_kb::{Kb, ids_by_rank};
+use interplay_kb::{Kb, RankedKb};
 use std::alloc::Global;
 
 /// The candidates of the log that the counters stand for, in the order of priority: the constraints over ranks whose
@@ -35,11 +35,10 @@ pub fn candidates(
     ensures cause { IfErr result (λ refusal. (ended : List (List ℕ)) → StandsFor kb.now ended []
         → CandidatesCause limit (candidates_of (ranked ranks.now ended) (activity_count kb.now) thresholds.now) refusal) }
 {
-    let ids = ids_by_rank(alloc, ranks)?;
+    let counters = RankedKb::of(alloc, kb, ranks)?;
     let mut found = Found::new(alloc, limit);
     let search = Search {
-        kb,
-        ids: &ids,
+        counters: &counters,
         thresholds,
     };
     search.all(&mut found)?;

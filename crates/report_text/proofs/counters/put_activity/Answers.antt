@@ -1,5 +1,4 @@
-use Rattle.std.proofs.Common.{◌≡◌, ◌++◌, ◌∷◌, [], ap, ◌∙◌, arith, string_bytes}
-use Rattle.interplay_kb.proofs.Ranked.{unary_told}
+use Rattle.std.proofs.Common.{◌≡◌, ◌++◌, ◌∷◌, [], ap, ◌∙◌, string_bytes}
 use Rattle.report_text.specs.Fields.{columns, quoted_at}
 use Rattle.report_text.specs.KbTable.{activity_numbers}
 use Rattle.report_text.proofs.Joined.{three, name_at}
@@ -9,8 +8,7 @@ use Rattle.report_text.proofs.counters.put_activity.Goals as goal
 pub returns : goal.returns
 returns c = λ names log texts told.
     let old = c.args.out.now.items in
-    let counts : c.unary-counts.result ≡ unary_counts c.args.rank log
-    = c.unary-counts.ensures told.ended told.stands ∙ unary_told c.args.kb.now c.args.ids.now log told c.args.rank (omega (arith, c.requires.rank, c.requires.texts)) in
+    let counts : c.unary-counts.result ≡ unary_counts c.args.rank log = c.unary-counts.ensures log told in
     let name = name_at string_bytes c.args.texts.now names texts c.args.rank c.index-texts-rank.result c.requires.rank c.index-texts-rank.is in
     let columns_in : c.put_columns.new.out.items ≡ old ++ columns (activity_numbers (unary_counts c.args.rank log))
     = c.in_ok-put_columns.ensures ∙ ap (λ k. old ++ columns (activity_numbers k)) counts in

@@ -7,5 +7,5 @@ use Rattle.report_text.proofs.counters.put_all_pairs.Given as goal
 
 abbrev pub invariant-loop-rank : goal.invariant-loop-rank
 invariant-loop-rank l =
-    (names log : List (List ℕ)) → map string_bytes l.texts ≡ map quoted names → TellsOf l.kb l.ids log
+    (names log : List (List ℕ)) → map string_bytes l.texts ≡ map quoted names → TellsOf l.counters log
     → l.out.items ≡ l.fn.out.items ++ flat_map (pair_lines names log) (range_with_len 0 l.rank)

@@ -1,5 +1,4 @@
-use Rattle.std.proofs.Common.{◌≡◌, ◌++◌, ◌∷◌, [], ap, ◌∙◌, arith, string_bytes}
-use Rattle.interplay_kb.proofs.Ranked.{pair_told}
+use Rattle.std.proofs.Common.{◌≡◌, ◌++◌, ◌∷◌, [], ap, ◌∙◌, string_bytes}
 use Rattle.report_text.specs.Fields.{columns, quoted_at}
 use Rattle.report_text.specs.KbTable.{pair_numbers}
 use Rattle.report_text.proofs.Joined.{five, name_at}
@@ -9,9 +8,7 @@ use Rattle.report_text.proofs.counters.put_pair.Goals as goal
 pub returns : goal.returns
 returns c = λ names log texts told.
     let old = c.args.out.now.items in
-    let counts : c.pair-counts.result ≡ pair_counts c.args.first c.args.second log
-    = c.pair-counts.ensures told.ended told.stands
-    ∙ pair_told c.args.kb.now c.args.ids.now log told c.args.first c.args.second (omega (arith, c.requires.first, c.requires.texts)) (omega (arith, c.requires.second, c.requires.texts)) in
+    let counts : c.pair-counts.result ≡ pair_counts c.args.first c.args.second log = c.pair-counts.ensures log told in
     let first = name_at string_bytes c.args.texts.now names texts c.args.first c.index-texts-first.result c.requires.first c.index-texts-first.is in
     let second = name_at string_bytes c.args.texts.now names texts c.args.second c.index-texts-second.result c.requires.second c.index-texts-second.is in
     let columns_in : c.put_columns.new.out.items ≡ old ++ columns (pair_numbers (pair_counts c.args.first c.args.second log))

@@ -1,26 +1,50 @@
-use Rattle.std.proofs.Common.{◌∙◌, [], sym, subst, arith}
-use Rattle.interplay_kb.specs.Ranks.{AreIds, ranked}
-use Rattle.interplay_kb.specs.Stands.{activity_count}
-use Rattle.scoring.proofs.Ranking.{Holds-ranked, candidates-length, candidates_in_order}
+use Rattle.std.proofs.Common.{◌≡◌, ◌∙◌, List, ℕ, [], length, sym, ap, subst, arith}
+use Rattle.std.specs.List.{AllByRecursion}
+use Rattle.interplay_kb.specs.Ranks.{TellsOf, kb_of, rank_count, ranked}
+use Rattle.interplay_kb.specs.Stands.{StandsFor, activity_count}
+use Rattle.scoring.specs.Candidates.{EachOccurs, candidates_of}
+use Rattle.scoring.specs.Conditions.{HasEachEvent}
+use Rattle.scoring.specs.Found.{Holds}
+use Rattle.scoring.specs.Priority.{priority_cmp, in_order}
+use Rattle.scoring.specs.Scores.{IsScored}
+use Rattle.scoring.specs.Search.{constraints_by_pair, reaching_of}
+use Rattle.scoring.proofs.Searching.{each_told, found-length, found-in_order, found_scored}
 use Rattle.scoring.proofs.selection.candidates.Goals as goal
+
+pub all-requires-clause-ready : goal.all-requires-clause-ready
+all-requires-clause-ready c =
+    let told = c.in_ok-counters.ensures.tells c.requires.stands.0 c.requires.stands.1 in
+    record {
+      log = ranked c.args.ranks.now c.requires.stands.0;
+      tells = told;
+      each = each_told c.in_ok-counters.counters _ told (subst HasEachEvent (sym c.in_ok-counters.ensures.kb) c.requires.stands);
+      few = c.requires.thresholds;
+    }
 
 pub returns-then-count-limit-clause-cause : goal.returns-then-count-limit-clause-cause
 returns-then-count-limit-clause-cause c = λ ended s.
-    let kb = c.args.kb.now in
-    let ids : AreIds c.args.ranks.now c.deref.result.now = subst (AreIds c.args.ranks.now) (sym c.deref.ensures.value) c.in_ok-ids.ensures.ok in
-    let h = Holds-ranked kb ended c.args.ranks.now c.deref.result.now c.args.thresholds.now c.all.new.found s c.requires.ranks ids (c.in_ok-all.ensures.holds ended [] s c.new-found.ensures.holds) in
-    let size = candidates-length (ranked c.args.ranks.now ended) (activity_count kb) c.args.thresholds.now in
-    (h.counted ∙ sym size, omega (arith, h.counted, size))
+    let log = ranked c.args.ranks.now ended in
+    let n = activity_count c.args.kb.now in
+    let same : rank_count c.in_ok-counters.counters ≡ n = c.in_ok-counters.ensures.count in
+    let h = c.in_ok-all.ensures.finds.holds log [] (c.in_ok-counters.ensures.tells ended s) c.new-found.ensures.holds in
+    let size : c.all.new.found.count ≡ length (candidates_of log n c.args.thresholds.now)
+    = h.counted ∙ found-length log (rank_count c.in_ok-counters.counters) c.args.thresholds.now ∙ ap (λ n. length (candidates_of log n c.args.thresholds.now)) same in
+    (size, omega (arith, size))
 
 pub returns-clause-list : goal.returns-clause-list
 returns-clause-list c = λ ended s.
-    let kb = c.args.kb.now in
-    let ids : AreIds c.args.ranks.now c.deref.result.now = subst (AreIds c.args.ranks.now) (sym c.deref.ensures.value) c.in_ok-ids.ensures.ok in
-    let h = Holds-ranked kb ended c.args.ranks.now c.deref.result.now c.args.thresholds.now c.all.new.found s c.requires.ranks ids (c.in_ok-all.ensures.holds ended [] s c.new-found.ensures.holds) in
-    candidates_in_order kb ended c.args.ranks.now c.deref.result.now c.args.thresholds.now c.all.new.found.list.items c.sort.new.list.items c.requires.stands s c.requires.ranks ids
-    (h.listed (omega (arith, h.counted, c.all.ensures.limit, c.new-found.ensures.limit))) c.in_ok-sort.ensures.order
+    let log = ranked c.args.ranks.now ended in
+    let counters = c.in_ok-counters.counters in
+    let told : TellsOf counters log = c.in_ok-counters.ensures.tells ended s in
+    let each : EachOccurs (rank_count counters) log = each_told counters log told (subst HasEachEvent (sym c.in_ok-counters.ensures.kb) c.requires.stands) in
+    let h = c.in_ok-all.ensures.finds.holds log [] told c.new-found.ensures.holds in
+    let listed = h.listed (omega (arith, h.counted, c.all.ensures.limit, c.new-found.ensures.limit)) in
+    c.in_ok-sort.ensures.order log (subst (AllByRecursion (IsScored log)) (sym listed) (found_scored log (rank_count counters) c.args.thresholds.now each))
+    ∙ ap (in_order priority_cmp) listed
+    ∙ found-in_order log (rank_count counters) c.args.thresholds.now each
+    ∙ ap (λ n. candidates_of log n c.args.thresholds.now) c.in_ok-counters.ensures.count
 
 pub returns-clause-within : goal.returns-clause-within
 returns-clause-within c =
-    let h = c.in_ok-all.ensures.holds c.requires.stands.0 [] c.requires.stands.1 c.new-found.ensures.holds in
+    let h = c.in_ok-all.ensures.finds.holds _ [] (c.in_ok-counters.ensures.tells c.requires.stands.0 c.requires.stands.1) c.new-found.ensures.holds in
     omega (arith, h.within, c.all.ensures.limit, c.new-found.ensures.limit, c.sort.ensures.length, c.all.new.found.list.ok.0)

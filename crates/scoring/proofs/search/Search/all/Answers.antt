@@ -1,32 +1,33 @@
-use Rattle.std.proofs.Common.{◌++◌, ◌∙◌, sym, subst, arith}
-use Rattle.interplay_kb.specs.Stands.{activity_count}
-use Rattle.scoring.specs.Found.{Holds}
-use Rattle.scoring.specs.Ids.{reaching_by}
-use Rattle.scoring.proofs.Finding.{more, none, constraints_among, constraints_among-none, constraints_among-more, constraints_among-all}
+use Rattle.std.proofs.Common.{◌≡◌, ◌∙◌, subst, refl, arith}
+use Rattle.std.specs.List.{flat_map, range_with_len}
+use Rattle.interplay_kb.specs.Ranks.{rank_count}
+use Rattle.scoring.specs.Search.{constraints_with_smaller, constraints_by_pair, Finds}
+use Rattle.scoring.proofs.Searching.{finds-none, finds-more, below-more}
 use Rattle.scoring.proofs.search.Search.all.Goals as goal
 
-pub loop-kind-init : goal.loop-kind-init
-loop-kind-init c = record {
-  kinds = c.kinds-kind-items.ensures;
-  limit = omega arith;
+pub loop-rank-init : goal.loop-rank-init
+loop-rank-init c = record {
+  end = c.activities-rank-end.ensures;
+  few = omega (arith, c.activities-rank-end.ensures, c.requires.ready.tells.stands.few);
+  limit = refl;
   count = omega arith;
-  holds = λ ended before s h.
-      none c.args.self.now.ids.now ended c.args.self.now.thresholds.now c.args.found.now before _ (constraints_among-none (activity_count c.args.self.now.kb.now)) h;
+  finds = finds-none c.args.self.now.counters.now c.args.self.now.thresholds.now c.args.found.now _ refl;
 }
 
-pub loop-kind-preserved : goal.loop-kind-preserved
-loop-kind-preserved c = record {
-  kinds = c.kinds-kind-items.ensures;
-  limit = c.of_kind.ensures.limit ∙ c.loop-kind.invariant.limit;
-  count = omega (arith, c.in_ok-of_kind.ensures.count);
-  holds = λ ended before s h.
-      more c.args.self.now.ids.now ended c.args.self.now.thresholds.now c.of_kind.new.found before (constraints_among (activity_count c.args.self.now.kb.now) c.loop-kind.kind-index) _ _
-      (constraints_among-more (activity_count c.args.self.now.kb.now) c.loop-kind.kind-index _ c.kinds-kind-items.ensures c.loop-kind-test.true)
-      (c.in_ok-of_kind.ensures.holds ended _ s (c.loop-kind.invariant.holds ended before s h));
+pub loop-rank-preserved : goal.loop-rank-preserved
+loop-rank-preserved c = record {
+  end = c.loop-rank.invariant.end;
+  few = c.loop-rank.invariant.few;
+  limit = c.of_rank.ensures.limit ∙ c.loop-rank.invariant.limit;
+  count = omega (arith, c.in_ok-of_rank.ensures.count);
+  finds =
+      finds-more c.args.self.now.counters.now c.args.self.now.thresholds.now _ _ _ _ _ _ (below-more constraints_with_smaller c.loop-rank.rank)
+      c.loop-rank.invariant.finds c.in_ok-of_rank.ensures.finds;
 }
 
-pub returns-clause-holds : goal.returns-clause-holds
-returns-clause-holds c = λ ended before s h.
-    let n = activity_count c.args.self.now.kb.now in
-    subst (λ cs. Holds c.loop-kind.found (before ++ reaching_by c.args.self.now.ids.now ended c.args.self.now.thresholds.now cs))
-    (sym (constraints_among-all n c.loop-kind.kind-index (omega arith))) (c.loop-kind.invariant.holds ended before s h)
+pub returns-clause-finds : goal.returns-clause-finds
+unfolding constraints_by_pair
+returns-clause-finds c =
+    let whole : c.loop-rank.rank ≡ rank_count c.args.self.now.counters.now = omega (arith, c.loop-rank.invariant.end) in
+    subst (λ k. Finds c.args.self.now.counters.now c.args.self.now.thresholds.now (flat_map constraints_with_smaller (range_with_len 0 k)) c.args.found.now c.loop-rank.found)
+    whole c.loop-rank.invariant.finds

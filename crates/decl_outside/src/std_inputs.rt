@@ -1,8 +1,10 @@
-ghost use Rattle.std.specs.Prelude.{◌≡◌, ◌<◌, not, length, None, is_some, true, false, OnOk, OnErr};
+ghost use Rattle.std.specs.Prelude.{◌≡◌, ◌<◌, [], not, length, None, Some, is_some, true, false, OnOk, OnErr};
 ghost use Rattle.std.specs.Io.{ReadsAtMost};
 ghost use Rattle.std.specs.Io.KnownBytes.{ReadConsumes};
+ghost use Rattle.decl_outside.specs.Asked.{names_of, last_of};
 ghost use Rattle.decl_outside.specs.Inputs.{InputState, Opens, Reads, is_standard, left_of};
 
+use crate::asked::Asked;
 use crate::{Failed, Inputs};
 use decl_base::Name;
 use std::io::Read;
@@ -15,7 +17,7 @@ pub struct StdInputs<R: Files + Input + Drop> {
     rt: R,
     file: Option<R::File>,
     standard: Option<R::Reader>,
-    asked: Option<Name>,
+    asked: Asked,
     has_failed: bool,
     is_open: bool,
     faults: u64,
@@ -27,6 +29,7 @@ impl<R: Files + Input + Drop> StdInputs<R> {
         ensures { ⟦<StdInputs<R> as Inputs>⟧.state result ≡ record {
           faults = 0;
           asked = None;
+          names = Some [];
           has_failed = false;
           is_open = false;
           contents = None;
@@ -37,7 +40,7 @@ impl<R: Files + Input + Drop> StdInputs<R> {
             rt,
             file: None,
             standard: None,
-            asked: None,
+            asked: Asked::Nothing,
             has_failed: false,
             is_open: false,
             faults: 0,
@@ -48,7 +51,8 @@ impl<R: Files + Input + Drop> StdInputs<R> {
 impl<R: Files + Input + Drop> Inputs for StdInputs<R> {
     ghost state = { λ s. record {
       faults = s.faults;
-      asked = s.asked;
+      asked = last_of s.asked;
+      names = names_of s.asked;
       has_failed = s.has_failed;
       is_open = s.is_open;
       contents = None;
@@ -78,7 +82,7 @@ impl<R: Files + Input + Drop> Inputs for StdInputs<R> {
                 }
             }
         }
-        self.asked = Some(name);
+        self.asked.note(name);
         self.is_open = !self.has_failed;
         if self.has_failed {
             self.faults = self.faults.saturating_add(1);

@@ -1,4 +1,5 @@
-pub mod Simple
 pub mod First
 pub mod Numerals
+pub mod Simple
 pub mod Taken
+pub mod Tables

@@ -5,8 +5,6 @@ use Rattle.std.specs.Str.{bytes_eq}
 use Rattle.decl_base.specs.Threshold.{is_digit, number_of_digits}
 use Rattle.log_columns.specs.declared.OrderAs.{OrderAs}
 use Rattle.log_columns.specs.declared.OrderAs.TheVariants as order
-use Rattle.minerful_words.specs.declared.settings.Command.{Command}
-use Rattle.minerful_words.specs.declared.settings.Command.TheVariants as command
 use Rattle.minerful_words.specs.declared.settings.Format.{Format}
 use Rattle.minerful_words.specs.declared.settings.Format.TheVariants as format
 use Rattle.minerful_words.specs.declared.settings.Stage.{Stage}
@@ -14,9 +12,13 @@ use Rattle.minerful_words.specs.declared.settings.Stage.TheVariants as stage
 use Rattle.minerful_words.specs.declared.settings.Out.{Out}
 use Rattle.minerful_words.specs.declared.settings.Out.TheVariants as out
 
+-- the number of digits that a whole number has at most
+abbrev pub most_digits : ℕ
+most_digits = 10
+
 -- one decimal digit to ten, and nothing else
 abbrev pub is_whole_number : List ℕ → Bool
-is_whole_number text = nat_le 1 (length text) && nat_le (length text) 10 && list_all is_digit text
+is_whole_number text = nat_le 1 (length text) && nat_le (length text) most_digits && list_all is_digit text
 
 -- the whole number that a text writes in decimal digits
 unfoldable pub whole_number_of : List ℕ → Option ℕ
@@ -26,17 +28,16 @@ whole_number_of text = if is_whole_number text then Some (number_of_digits text)
 abbrev pub between : ℕ → ℕ → ℕ → Option ℕ
 between least most n = if nat_le least n && nat_le n most then Some n else None
 
+-- the greatest limit on states that may be set
+abbrev pub most_states : ℕ
+most_states = 65536
+
 abbrev pub IsLimit : ℕ → Type 0
-IsLimit states = (1 ≤ states) × (states ≤ 65536)
+IsLimit states = (1 ≤ states) × (states ≤ most_states)
 
 -- a limit on states
 unfoldable pub states_of : List ℕ → Option ℕ
-states_of text = option_and_then (between 1 65536) (whole_number_of text)
-
-unfoldable pub command_of : List ℕ → Option Command
-command_of text =
-    if bytes_eq text (codes "mine") then Some command.Mine
-    else (if bytes_eq text (codes "kb") then Some command.Kb else None)
+states_of text = option_and_then (between 1 most_states) (whole_number_of text)
 
 unfoldable pub format_of : List ℕ → Option Format
 format_of text =

@@ -1,5 +1,5 @@
 -- The settings that the words of the command line give, or the place of their fault.
-use Rattle.std.specs.Prelude.{◌≡◌, ◌≤◌, ℕ, List, [], ◌∷◌, codes, Option, Some, None, Result, Ok, Err, unwrap_or, option_map}
+use Rattle.std.specs.Prelude.{◌≡◌, ◌≤◌, ℕ, List, [], ◌∷◌, codes, Option, Some, None, Result, Ok, Err, unwrap_or, option_map, if◌then◌else◌}
 use Rattle.std.specs.Option.{ok_or}
 use Rattle.clap.specs.Words.{Row, Text, first_of}
 use Rattle.decl_base.specs.Threshold.{threshold_of}
@@ -8,19 +8,17 @@ use Rattle.decl_base.specs.declared.refusal.Refusal.TheVariants.{Usage, Memory}
 use Rattle.decl_base.specs.declared.threshold.Threshold.{Threshold}
 use Rattle.decl_base.specs.declared.threshold.Thresholds.{Thresholds}
 use Rattle.log_columns.specs.declared.Columns.{Columns}
-use Rattle.log_columns.specs.declared.OrderAs.{OrderAs}
 use Rattle.log_columns.specs.declared.OrderAs.TheVariants as order
 use Rattle.minerful_words.specs.Apps.{app_for, taken}
-use Rattle.minerful_words.specs.Grammars.{command_of, format_of, order_as_of, states_of, stage_of, out_of}
+use Rattle.minerful_words.specs.Grammars.{format_of, order_as_of, states_of, stage_of, out_of}
+use Rattle.minerful_words.specs.Table.{OptionRow, options, row_named, takes}
 use Rattle.minerful_words.specs.declared.settings.Command.{Command}
-use Rattle.minerful_words.specs.declared.settings.Command.TheVariants as command
-use Rattle.minerful_words.specs.declared.settings.Format.{Format}
 use Rattle.minerful_words.specs.declared.settings.Format.TheVariants as format
-use Rattle.minerful_words.specs.declared.settings.Stage.{Stage}
 use Rattle.minerful_words.specs.declared.settings.Stage.TheVariants as stage
-use Rattle.minerful_words.specs.declared.settings.Out.{Out}
 use Rattle.minerful_words.specs.declared.settings.Out.TheVariants as out
 use Rattle.minerful_words.specs.declared.settings.Settings.{Settings}
+use Rattle.minerful_words.specs.declared.table.Field.{Field}
+use Rattle.minerful_words.specs.declared.table.Field.TheVariants as field
 
 -- the first fault decides
 infixl 10 ◌>>=◌
@@ -28,34 +26,10 @@ abbrev pub ◌>>=◌ : {A B : Type 0} → Result A ℕ → (A → Result B ℕ) 
 (Ok x) >>= f = f x
 (Err at) >>= f = Err at
 
--- an option that isn't given has its default
-abbrev pub meaning_or : {T : Type 0} → T → (Text → Option T) → Option Text → Option T
-meaning_or default grammar None = Some default
-meaning_or default grammar (Some text) = grammar text
+-- ---- what is not given
 
--- the value of the option with this number and name: a text that isn't in the grammar is a fault at the number
-abbrev pub choice : {T : Type 0} → ℕ → Text → (Text → Option T) → T → List Row → Result T ℕ
-choice at name grammar default found = ok_or (meaning_or default grammar (first_of name found)) at
-
-unfoldable pub format_in : List Row → Result Format ℕ
-format_in = choice 2 (codes "format") format_of format.Strings
-
-unfoldable pub order_as_in : List Row → Result OrderAs ℕ
-order_as_in = choice 6 (codes "order-as") order_as_of order.Text
-
--- any text names a column
-unfoldable pub columns_in : List Row → Result Columns ℕ
-columns_in found = do
-  order_as ← order_as_in found
-  Ok (record {
-    case = unwrap_or (first_of (codes "case-column") found) (codes "case");
-    activity = unwrap_or (first_of (codes "activity-column") found) (codes "activity");
-    order = first_of (codes "order-column") found;
-    order_as = order_as;
-  })
-
-abbrev pub read_threshold : Text → Option Threshold
-read_threshold text = option_map (λ n. record { millionths = n }) (threshold_of text)
+abbrev pub default_columns : Columns
+default_columns = record { case = codes "case"; activity = codes "activity"; order = None; order_as = order.Text }
 
 abbrev pub default_thresholds : Thresholds
 default_thresholds = record {
@@ -64,87 +38,68 @@ default_thresholds = record {
   interest = record { millionths = 125000 };
 }
 
--- up to 1
-pub record AreFractions (thresholds : Thresholds) : Type 0 where
-  pub support : thresholds.support.millionths ≤ 1000000
-  pub confidence : thresholds.confidence.millionths ≤ 1000000
-  pub interest : thresholds.interest.millionths ≤ 1000000
-
-unfoldable pub thresholds_in : List Row → Result Thresholds ℕ
-thresholds_in found = do
-  support ← choice 7 (codes "support") read_threshold default_thresholds.support found
-  confidence ← choice 8 (codes "confidence") read_threshold default_thresholds.confidence found
-  interest ← choice 9 (codes "interest") read_threshold default_thresholds.interest found
-  Ok (record { support = support; confidence = confidence; interest = interest })
-
 abbrev pub default_states : ℕ
 default_states = 16384
 
-unfoldable pub states_in : List Row → Result ℕ ℕ
-states_in = choice 10 (codes "max-states") states_of default_states
+-- the settings of a command before its options are looked at: a log that isn't named is standard input, `-`
+unfoldable pub without_options : Command → List Row → Settings
+without_options command found = record {
+  command = command;
+  log = unwrap_or (first_of (codes "log") found) (codes "-");
+  format = format.Strings;
+  columns = default_columns;
+  thresholds = default_thresholds;
+  states = default_states;
+  stage = stage.Scores;
+  out = out.Json;
+}
 
-unfoldable pub stage_in : List Row → Result Stage ℕ
-stage_in = choice 11 (codes "stage") stage_of stage.Scores
+-- ---- what is given
 
-unfoldable pub out_in : List Row → Result Out ℕ
-out_in = choice 12 (codes "out") out_of out.Json
+abbrev pub read_threshold : Text → Option Threshold
+read_threshold text = option_map (λ n. record { millionths = n }) (threshold_of text)
 
--- a log that isn't named is standard input
-abbrev pub log_in : List Row → List ℕ
-log_in found = unwrap_or (first_of (codes "log") found) (codes "-")
+-- the settings with a field set to the value of a text, where it is in the field's grammar; any text names a column
+unfoldable pub put : Field → Text → Settings → Option Settings
+put field.Format text s = option_map (λ v. record s { format = v }) (format_of text)
+put field.CaseColumn text s = Some (record s { columns = record s.columns { case = text } })
+put field.ActivityColumn text s = Some (record s { columns = record s.columns { activity = text } })
+put field.OrderColumn text s = Some (record s { columns = record s.columns { order = Some text } })
+put field.OrderAs text s = option_map (λ v. record s { columns = record s.columns { order_as = v } }) (order_as_of text)
+put field.Support text s = option_map (λ v. record s { thresholds = record s.thresholds { support = v } }) (read_threshold text)
+put field.Confidence text s = option_map (λ v. record s { thresholds = record s.thresholds { confidence = v } }) (read_threshold text)
+put field.Interest text s = option_map (λ v. record s { thresholds = record s.thresholds { interest = v } }) (read_threshold text)
+put field.States text s = option_map (λ v. record s { states = v }) (states_of text)
+put field.Stage text s = option_map (λ v. record s { stage = v }) (stage_of text)
+put field.Out text s = option_map (λ v. record s { out = v }) (out_of text)
 
-unfoldable pub mine_settings : List Row → Result Settings ℕ
-mine_settings found = do
-  format ← format_in found
-  columns ← columns_in found
-  thresholds ← thresholds_in found
-  states ← states_in found
-  stage ← stage_in found
-  out ← out_in found
-  Ok (record {
-    command = command.Mine;
-    log = log_in found;
-    format = format;
-    columns = columns;
-    thresholds = thresholds;
-    states = states;
-    stage = stage;
-    out = out;
-  })
+-- the text of an option among those found: none where the command doesn't take it
+abbrev pub text_for : Command → List Row → OptionRow → Option Text
+text_for command found option = if takes command option then first_of option.name found else None
 
-unfoldable pub kb_settings : List Row → Result Settings ℕ
-kb_settings found = do
-  format ← format_in found
-  columns ← columns_in found
-  Ok (record {
-    command = command.Kb;
-    log = log_in found;
-    format = format;
-    columns = columns;
-    thresholds = default_thresholds;
-    states = default_states;
-    stage = stage.Scores;
-    out = out.Json;
-  })
+-- an option without a text changes nothing; a text that isn't in the grammar is a fault at the option's number
+abbrev pub with_text : OptionRow → Option Text → Settings → Result Settings ℕ
+with_text option None s = Ok s
+with_text option (Some text) s = ok_or (put option.field text s) option.number
 
--- what the values of a command give
+-- the settings with the texts of these options, one after the other
+unfoldable pub with_texts : List OptionRow → Command → List Row → Settings → Result Settings ℕ
+with_texts [] command found s = Ok s
+with_texts (option ∷ rest) command found s = do
+  next ← with_text option (text_for command found option) s
+  with_texts rest command found next
+
 unfoldable pub settings_in : Command → List Row → Result Settings ℕ
-settings_in command.Mine = mine_settings
-settings_in command.Kb = kb_settings
-
--- what the words of a command give
-unfoldable pub settings_for : Command → List Text → Result Settings ℕ
-settings_for command words = do
-  found ← taken (app_for command) words
-  settings_in command found
+settings_in command found = with_texts options command found (without_options command found)
 
 -- The settings, or a number: 0 where the first word names no command; else 1 where the command doesn't take the
 -- words; else the least number of an option whose text isn't in its grammar.
 unfoldable pub settings : List Text → Result Settings ℕ
 settings [] = Err 0
 settings (word ∷ words) = do
-  command ← ok_or (command_of word) 0
-  settings_for command (word ∷ words)
+  row ← ok_or (row_named word) 0
+  found ← taken (app_for row) (word ∷ words)
+  settings_in row.command found
 
 -- the names of the inputs that a command with these settings reads
 abbrev pub inputs_of_settings : Result Settings ℕ → List Text
@@ -153,6 +108,14 @@ inputs_of_settings (Err at) = []
 
 unfoldable pub inputs_of : List Text → List Text
 inputs_of words = inputs_of_settings (settings words)
+
+-- ---- what is answered
+
+-- up to 1
+pub record AreFractions (thresholds : Thresholds) : Type 0 where
+  pub support : thresholds.support.millionths ≤ 1000000
+  pub confidence : thresholds.confidence.millionths ≤ 1000000
+  pub interest : thresholds.interest.millionths ≤ 1000000
 
 -- a refusal of words that give no settings names the place of their fault; want of memory is free
 abbrev pub Refuses : {T : Type 0} → Refusal → Result T ℕ → Type 0

@@ -1,29 +1,29 @@
-ghost use Rattle.std.specs.Prelude.{◌≡◌, true, false, IfOk, IfErr, Ok, codes, map, option_map, string_bytes};
+ghost use Rattle.std.specs.Prelude.{◌≡◌, true, false, IfOk, IfErr, Ok, codes, map, fold, option_map, string_bytes};
 ghost use Rattle.clap.specs.Words.{app_of, rule_of, with_rule, is_simple_and_free, found_of, rows_of, first_of};
-ghost use Rattle.minerful_words.specs.Apps.{text_option, bare_app, with_option as option_added, simple_app, taken};
+ghost use Rattle.minerful_words.specs.Apps.{text_option, text_by_place, bare_app, app_for, taken};
+ghost use Rattle.minerful_words.specs.Apps.{with_option as option_added, with_positional as positional_added};
+ghost use Rattle.minerful_words.specs.Rows.{command_row, option_row, positional_row};
 ghost use Rattle.minerful_words.specs.Settings.{Refuses};
+ghost use Rattle.minerful_words.specs.Table.{options};
 
+use crate::settings::Command;
+use crate::table::{CommandForm, CommandOption, Positional};
 use clap::error::ErrorKind;
-use clap::{Arg, ArgAction, ArgMatches, Command};
+use clap::{Arg, ArgAction, ArgMatches};
 use decl_base::Refusal;
 use std::alloc::{AllocError, Global};
 
-/// What the command of this name, with these options and one log, finds in the words. The first word is the command's
-/// name.
+/// What a command finds in the words. The first word is its name.
 pub(crate) fn parse<'a>(
     alloc: Global,
-    name: &'a str,
-    options: &[&'a str],
+    form: &CommandForm,
     words: &'a [String],
 ) -> Result<ArgMatches<'a>, Refusal>
-    requires { is_simple_and_free (simple_app name.now (map (λ s. s.now) options.now)) ≡ true }
-    ensures rows { IfOk result (λ m.
-        taken (simple_app name.entry.now (map (λ s. s.now) options.entry.now)) (map string_bytes words.entry.now)
-        ≡ Ok (rows_of (found_of m))) }
-    ensures refusal { IfErr result (λ e.
-        Refuses e (taken (simple_app name.entry.now (map (λ s. s.now) options.entry.now)) (map string_bytes words.entry.now))) }
+    requires { is_simple_and_free (app_for (command_row form.now)) ≡ true }
+    ensures rows { IfOk result (λ m. taken (app_for (command_row form.now)) (map string_bytes words.entry.now) ≡ Ok (rows_of (found_of m))) }
+    ensures refusal { IfErr result (λ e. Refuses e (taken (app_for (command_row form.now)) (map string_bytes words.entry.now))) }
 {
-    let command = simple_command(alloc, name, options)?;
+    let command = clap_command(alloc, form)?;
     let error = match command.try_get_matches_from(words) {
         Ok(matches) => return Ok(matches),
         Err(error) => error,
@@ -41,36 +41,51 @@ pub(crate) fn text_of<'a>(matches: &ArgMatches<'a>, id: &str) -> Option<&'a str>
     matches.get_str(id)
 }
 
-fn simple_command<'a>(
-    alloc: Global,
-    name: &'a str,
-    options: &[&'a str],
-) -> Result<Command<'a>, AllocError>
-    ensures { IfOk result (λ c. app_of c ≡ simple_app name.entry.now (map (λ s. s.now) options.entry.now)) }
+/// The command as `clap` has it, with the options that it takes and its texts by place.
+#[tactic(auto, unfolding(crate::specs::Apps::app_for))]
+fn clap_command<'a>(alloc: Global, form: &CommandForm) -> Result<clap::Command<'a>, AllocError>
+    ensures { IfOk result (λ c. app_of c ≡ app_for (command_row form.now)) }
 {
-    let mut command = bare_command(alloc, name);
-    for option in options {
-        command = with_option(alloc, command, option)?;
-    }
-    command.arg(Arg::new(alloc, "log"))
+    let command = with_options(alloc, bare_command(alloc, form.name), form.command)?;
+    with_positionals(alloc, command, form.positionals)
 }
 
-fn bare_command<'a>(alloc: Global, name: &'a str) -> Command<'a>
+fn bare_command<'a>(alloc: Global, name: &'a str) -> clap::Command<'a>
     ensures { app_of result ≡ bare_app name.entry.now }
 {
-    Command::new(alloc, name)
+    clap::Command::new(alloc, name)
         .disable_help_flag(true)
         .disable_version_flag(true)
 }
 
+fn with_options<'a>(
+    alloc: Global,
+    command: clap::Command<'a>,
+    taking: Command,
+) -> Result<clap::Command<'a>, AllocError>
+    ensures { IfOk result (λ c. app_of c ≡ fold (option_added taking) (app_of command.entry) options) }
+{
+    let mut command = command;
+    for option in CommandOption::all() {
+        command = with_option(alloc, command, taking, option)?;
+    }
+    Ok(command)
+}
+
+/// The command with the option, where it takes it.
 fn with_option<'a>(
     alloc: Global,
-    command: Command<'a>,
-    name: &'a str,
-) -> Result<Command<'a>, AllocError>
-    ensures { IfOk result (λ c. app_of c ≡ option_added (app_of command.entry) name.entry.now) }
+    command: clap::Command<'a>,
+    taking: Command,
+    option: &CommandOption,
+) -> Result<clap::Command<'a>, AllocError>
+    ensures { IfOk result (λ c. app_of c ≡ option_added taking (app_of command.entry) (option_row option.now)) }
 {
-    command.arg(option_named(alloc, name))
+    if option.is_for(taking) {
+        command.arg(option_named(alloc, option.name))
+    } else {
+        Ok(command)
+    }
 }
 
 fn option_named<'a>(alloc: Global, name: &'a str) -> Arg<'a>
@@ -78,4 +93,35 @@ fn option_named<'a>(alloc: Global, name: &'a str) -> Arg<'a>
     ensures local { result.global ≡ false }
 {
     Arg::new(alloc, name).long(name).action(ArgAction::Set)
+}
+
+fn with_positionals<'a>(
+    alloc: Global,
+    command: clap::Command<'a>,
+    positionals: &[Positional],
+) -> Result<clap::Command<'a>, AllocError>
+    ensures { IfOk result (λ c. app_of c ≡ fold positional_added (app_of command.entry) (map positional_row positionals.now)) }
+{
+    let mut command = command;
+    for positional in positionals {
+        command = with_positional(alloc, command, positional)?;
+    }
+    Ok(command)
+}
+
+fn with_positional<'a>(
+    alloc: Global,
+    command: clap::Command<'a>,
+    positional: &Positional,
+) -> Result<clap::Command<'a>, AllocError>
+    ensures { IfOk result (λ c. app_of c ≡ positional_added (app_of command.entry) (positional_row positional.now)) }
+{
+    command.arg(text_by_place(alloc, positional))
+}
+
+fn text_by_place<'a>(alloc: Global, positional: &Positional) -> Arg<'a>
+    ensures rule { rule_of result ≡ text_by_place (positional_row positional.now) }
+    ensures local { result.global ≡ false }
+{
+    Arg::new(alloc, positional.name).required(positional.is_required)
 }

@@ -5,6 +5,7 @@ mod choices;
 mod clap_command;
 mod grammars;
 mod settings;
+mod table;
 #[cfg(test)]
 mod tests;
 

@@ -1,8 +1,10 @@
 ghost use Rattle.std.specs.Prelude.{◌≡◌, IfOk, map, string_bytes};
-ghost use Rattle.minerful_words.specs.Grammars.{IsLimit, command_of, format_of, stage_of, out_of};
+ghost use Rattle.minerful_words.specs.Grammars.{IsLimit, format_of, stage_of, out_of};
 ghost use Rattle.minerful_words.specs.Settings.{settings, Gives, AreFractions};
 
-use crate::choices::{kb_settings, mine_settings};
+use crate::choices::settings_in;
+use crate::clap_command::parse;
+use crate::table::CommandForm;
 use decl_base::{Name, Refusal, Thresholds};
 use log_columns::Columns;
 use std::alloc::Global;
@@ -62,24 +64,11 @@ impl Settings {
         let Some(word) = words.first() else {
             return Err(Refusal::Usage { at: 0 });
         };
-        match Command::named(word.as_str()) {
-            Some(Command::Mine) => mine_settings(alloc, words),
-            Some(Command::Kb) => kb_settings(alloc, words),
-            None => Err(Refusal::Usage { at: 0 }),
-        }
-    }
-}
-
-impl Command {
-    #[tactic(auto, unfolding(crate::specs::Grammars::command_of))]
-    pub(crate) fn named(text: &str) -> Option<Command>
-        ensures { result ≡ command_of text.now }
-    {
-        match text {
-            "mine" => Some(Command::Mine),
-            "kb" => Some(Command::Kb),
-            _ => None,
-        }
+        let Some(form) = CommandForm::named(word.as_str()) else {
+            return Err(Refusal::Usage { at: 0 });
+        };
+        let found = parse(alloc, form, words)?;
+        settings_in(alloc, form.command, &found)
     }
 }
 

@@ -1,8 +1,0 @@
-use Rattle.std.proofs.Common.{◌∙◌, ap}
-use Rattle.std.proofs.lemmas.Result.{IfOk-weaker}
-use Rattle.clap.specs.Words.{app_of, with_rule}
-use Rattle.minerful_words.proofs.clap_command.with_option.Goals as goal
-
-pub returns : goal.returns
-returns c =
-    IfOk-weaker c.arg.result _ _ (λ r h. h.shape c.option_named.ensures.local ∙ ap (with_rule (app_of c.args.command)) c.option_named.ensures.rule) c.arg.ensures

@@ -1,0 +1,77 @@
+-- The commands and the options of the command line, a row for each.
+use Rattle.std.specs.Prelude.{ℕ, List, [], ◌∷◌, Bool, true, false, Option, codes, find}
+use Rattle.std.specs.List.{list_any}
+use Rattle.std.specs.Str.{bytes_eq}
+use Rattle.clap.specs.Words.{Text}
+use Rattle.minerful_words.specs.declared.settings.Command.{Command}
+use Rattle.minerful_words.specs.declared.settings.Command.TheVariants.{Mine, Kb}
+use Rattle.minerful_words.specs.declared.table.Field.{Field}
+use Rattle.minerful_words.specs.declared.table.Field.TheVariants as field
+
+-- an option: its number, its name, the commands that take it, and the field of the settings that its text sets
+pub record OptionRow : Type 0 where
+  pub number : ℕ
+  pub name : Text
+  pub commands : List Command
+  pub field : Field
+
+-- a text that is known by its place among the words: its name, and whether it must be there
+pub record PositionalRow : Type 0 where
+  pub name : Text
+  pub is_required : Bool
+
+-- a command: its name, and its texts by place
+pub record CommandRow : Type 0 where
+  pub command : Command
+  pub name : Text
+  pub positionals : List PositionalRow
+
+abbrev option : ℕ → Text → List Command → Field → OptionRow
+option number name commands field = record { number = number; name = name; commands = commands; field = field }
+
+-- the commands that read a log
+abbrev reading : List Command
+reading = Mine ∷ Kb ∷ []
+
+-- the commands that mine a log
+abbrev mining : List Command
+mining = Mine ∷ []
+
+-- the options, in the order in which their texts are tried
+unfoldable pub options : List OptionRow
+options =
+    option 2 (codes "format") reading field.Format
+    ∷ option 3 (codes "case-column") reading field.CaseColumn
+    ∷ option 4 (codes "activity-column") reading field.ActivityColumn
+    ∷ option 5 (codes "order-column") reading field.OrderColumn
+    ∷ option 6 (codes "order-as") reading field.OrderAs
+    ∷ option 7 (codes "support") mining field.Support
+    ∷ option 8 (codes "confidence") mining field.Confidence
+    ∷ option 9 (codes "interest") mining field.Interest
+    ∷ option 10 (codes "max-states") mining field.States
+    ∷ option 11 (codes "stage") mining field.Stage
+    ∷ option 12 (codes "out") mining field.Out
+    ∷ []
+
+-- the log, which need not be there
+abbrev log : List PositionalRow
+log = record { name = codes "log"; is_required = false } ∷ []
+
+unfoldable pub commands : List CommandRow
+commands =
+    record { command = Mine; name = codes "mine"; positionals = log }
+    ∷ record { command = Kb; name = codes "kb"; positionals = log }
+    ∷ []
+
+-- the command of this name
+unfoldable pub row_named : Text → Option CommandRow
+row_named text = find (λ row. bytes_eq row.name text) commands
+
+abbrev is_command : Command → Command → Bool
+is_command Mine Mine = true
+is_command Kb Kb = true
+is_command _ _ = false
+
+-- whether the command takes the option
+abbrev pub takes : Command → OptionRow → Bool
+takes command option = list_any (is_command command) option.commands

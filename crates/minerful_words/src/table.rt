@@ -1,0 +1,178 @@
+//! The commands and the options of the command line, a row for each.
+
+ghost use Rattle.std.specs.Prelude.{◌≡◌, map, option_map};
+ghost use Rattle.minerful_words.specs.Rows.{command_row, option_row};
+ghost use Rattle.minerful_words.specs.Table.{commands, options, row_named, takes};
+
+use crate::settings::Command;
+
+/// A field of the settings that the text of an option sets.
+#[derive(Clone, Copy, Debug, PartialEq, Eq)]
+pub(crate) enum Field {
+    Format,
+    CaseColumn,
+    ActivityColumn,
+    OrderColumn,
+    OrderAs,
+    Support,
+    Confidence,
+    Interest,
+    States,
+    Stage,
+    Out,
+}
+
+/// An option with one text, and the commands that take it.
+pub(crate) struct CommandOption {
+    /// The place of a fault in its text.
+    pub number: u32,
+    pub name: &'static str,
+    pub commands: &'static [Command],
+    pub field: Field,
+}
+
+/// A text that is known by its place among the words.
+pub(crate) struct Positional {
+    pub name: &'static str,
+    pub is_required: bool,
+}
+
+/// A command's name, and its texts by place.
+pub(crate) struct CommandForm {
+    pub command: Command,
+    pub name: &'static str,
+    pub positionals: &'static [Positional],
+}
+
+/// The commands that read a log.
+const READING: &[Command] = &[Command::Mine, Command::Kb];
+
+/// The commands that mine a log.
+const MINING: &[Command] = &[Command::Mine];
+
+const OPTIONS: [CommandOption; 11] = [
+    CommandOption {
+        number: 2,
+        name: "format",
+        commands: READING,
+        field: Field::Format,
+    },
+    CommandOption {
+        number: 3,
+        name: "case-column",
+        commands: READING,
+        field: Field::CaseColumn,
+    },
+    CommandOption {
+        number: 4,
+        name: "activity-column",
+        commands: READING,
+        field: Field::ActivityColumn,
+    },
+    CommandOption {
+        number: 5,
+        name: "order-column",
+        commands: READING,
+        field: Field::OrderColumn,
+    },
+    CommandOption {
+        number: 6,
+        name: "order-as",
+        commands: READING,
+        field: Field::OrderAs,
+    },
+    CommandOption {
+        number: 7,
+        name: "support",
+        commands: MINING,
+        field: Field::Support,
+    },
+    CommandOption {
+        number: 8,
+        name: "confidence",
+        commands: MINING,
+        field: Field::Confidence,
+    },
+    CommandOption {
+        number: 9,
+        name: "interest",
+        commands: MINING,
+        field: Field::Interest,
+    },
+    CommandOption {
+        number: 10,
+        name: "max-states",
+        commands: MINING,
+        field: Field::States,
+    },
+    CommandOption {
+        number: 11,
+        name: "stage",
+        commands: MINING,
+        field: Field::Stage,
+    },
+    CommandOption {
+        number: 12,
+        name: "out",
+        commands: MINING,
+        field: Field::Out,
+    },
+];
+
+/// The log, standard input where it isn't given.
+const LOG: &[Positional] = &[Positional {
+    name: "log",
+    is_required: false,
+}];
+
+const COMMANDS: [CommandForm; 2] = [
+    CommandForm {
+        command: Command::Mine,
+        name: "mine",
+        positionals: LOG,
+    },
+    CommandForm {
+        command: Command::Kb,
+        name: "kb",
+        positionals: LOG,
+    },
+];
+
+impl CommandOption {
+    /// All options, in the order of their numbers.
+    #[tactic(auto, unfolding(crate::specs::Table::options))]
+    pub(crate) fn all() -> &'static [CommandOption]
+        ensures { map option_row result.now ≡ options }
+    {
+        &OPTIONS
+    }
+
+    /// Whether the command takes this option.
+    pub(crate) fn is_for(&self, command: Command) -> bool
+        ensures { result ≡ takes command (option_row self.now) }
+    {
+        self.commands.contains(&command)
+    }
+}
+
+impl CommandForm {
+    /// All commands.
+    #[tactic(auto, unfolding(crate::specs::Table::commands))]
+    fn all() -> &'static [CommandForm]
+        ensures { map command_row result.now ≡ commands }
+    {
+        &COMMANDS
+    }
+
+    /// The command of this name.
+    pub(crate) fn named(text: &str) -> Option<&'static CommandForm>
+        ensures { option_map (λ form. command_row form.now) result ≡ row_named text.now }
+    {
+        for form in CommandForm::all() {
+            if form.name == text {
+                return Some(form);
+            }
+        }
+        None
+    }
+}

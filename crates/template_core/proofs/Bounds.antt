@@ -10,9 +10,11 @@ use Rattle.template_core.proofs.Laws.{sum_by-plus}
 use Rattle.template_core.proofs.Parts.{sum_failing-le, sum_passing-le, failing-alternates_later, failing-alternates_earlier}
 use Rattle.template_core.proofs.Counters.{and_first}
 use Rattle.template_core.proofs.Traces.{count_by-le}
-use Rattle.template_core.specs.Counts.{AreCounts, unary_counts, pair_counts, pair_of, no_pair}
+use Rattle.template_core.specs.Counts.{AreCounts, unary_counts, pair_counts, pair_in, no_pair}
+use Rattle.template_core.specs.Groups.{group_of}
+use Rattle.template_core.specs.declared.group.Group.{Group}
+use Rattle.template_core.specs.declared.group.Group.TheVariants.{Existence, Relation, Mutual, Negative}
 use Rattle.template_core.specs.declared.kind.Kind.{Kind}
-use Rattle.template_core.specs.declared.kind.Kind.TheVariants.{Init, End, Participation, AtMostOne, ChainSuccession, AlternateSuccession, Succession, CoExistence, ChainResponse, AlternateResponse, Response, ChainPrecedence, AlternatePrecedence, Precedence, RespondedExistence, NotCoExistence, NotSuccession, NotChainSuccession}
 use Rattle.template_core.specs.declared.counts.Counts.{Counts}
 use Rattle.template_core.specs.declared.counts.PairCounts.{PairCounts}
 use Rattle.template_core.specs.declared.counts.UnaryCounts.{UnaryCounts}
@@ -72,25 +74,11 @@ no_bounds a log h g = record {
   few = few_traces a log g;
 }
 
-either_bounds : (kind : Kind) (a b : ℕ) (log : List (List ℕ)) → sum_by (λ trace. length trace) log ≤ 16777215 → length log ≤ 1048575 → PairBounds (unary_counts a log) (pair_of kind a b log)
-either_bounds Init a b log h g = no_bounds a log h g
-either_bounds End a b log h g = no_bounds a log h g
-either_bounds Participation a b log h g = no_bounds a log h g
-either_bounds AtMostOne a b log h g = no_bounds a log h g
-either_bounds ChainSuccession a b log h g = pair_bounds a b log h g
-either_bounds AlternateSuccession a b log h g = pair_bounds a b log h g
-either_bounds Succession a b log h g = pair_bounds a b log h g
-either_bounds CoExistence a b log h g = pair_bounds a b log h g
-either_bounds ChainResponse a b log h g = pair_bounds a b log h g
-either_bounds AlternateResponse a b log h g = pair_bounds a b log h g
-either_bounds Response a b log h g = pair_bounds a b log h g
-either_bounds ChainPrecedence a b log h g = pair_bounds a b log h g
-either_bounds AlternatePrecedence a b log h g = pair_bounds a b log h g
-either_bounds Precedence a b log h g = pair_bounds a b log h g
-either_bounds RespondedExistence a b log h g = pair_bounds a b log h g
-either_bounds NotCoExistence a b log h g = pair_bounds a b log h g
-either_bounds NotSuccession a b log h g = pair_bounds a b log h g
-either_bounds NotChainSuccession a b log h g = pair_bounds a b log h g
+either_bounds : (group : Group) (a b : ℕ) (log : List (List ℕ)) → sum_by (λ trace. length trace) log ≤ 16777215 → length log ≤ 1048575 → PairBounds (unary_counts a log) (pair_in group a b log)
+either_bounds Existence a b log h g = no_bounds a log h g
+either_bounds (Relation activation) a b log h g = pair_bounds a b log h g
+either_bounds Mutual a b log h g = pair_bounds a b log h g
+either_bounds Negative a b log h g = pair_bounds a b log h g
 
 repeated-le : (a : ℕ) (log : List (List ℕ)) → (unary_counts a log).repeated ≤ length log
 repeated-le a log = count_by-le-length _ log
@@ -98,7 +86,7 @@ repeated-le a log = count_by-le-length _ log
 pub bounds_of : (kind : Kind) (counts : Counts) → AreCounts kind counts → Bounds counts
 bounds_of kind counts h =
     subst Bounds (sym h.are) (record {
-      onward = either_bounds kind h.a h.b h.log h.few_events h.few_traces;
-      back = either_bounds kind h.b h.a h.log h.few_events h.few_traces;
+      onward = either_bounds (group_of kind) h.a h.b h.log h.few_events h.few_traces;
+      back = either_bounds (group_of kind) h.b h.a h.log h.few_events h.few_traces;
       repeated = repeated-le h.a h.log;
     })

@@ -13,9 +13,12 @@ use Rattle.template_core.proofs.Zipper.{get-front, get-back, occurs-some, not-if
 use Rattle.template_core.specs.Constraints.{IsWellMade}
 use Rattle.template_core.specs.Counters.{occurrences, without, no_later, no_earlier, next, previous, rep_later, rep_earlier}
 use Rattle.template_core.specs.Events.{at_head, at_place, one_if, occurs, is_first}
-use Rattle.template_core.specs.Places.{EventIs, PreviousIs, SomeIs, LaterIs, EarlierIs, NoneBetween, AlternatesLater, AlternatesEarlier, AtEach, RepeatsLater, RepeatsEarlier, ActivatedAt, FulfilledAt, WithoutAt, NoLaterAt, NoEarlierAt, NextAt, PreviousAt, RepeatedLaterAt, RepeatedEarlierAt, TwoAre, CountsPlaces}
-use Rattle.template_core.specs.Repertoire.{each, each_of, at_first, none, alternates_later, alternates_earlier, is_activated, is_fulfilled}
+use Rattle.template_core.specs.Places.{EventIs, PreviousIs, SomeIs, LaterIs, EarlierIs, NoneBetween, AlternatesLater, AlternatesEarlier, AtEach, RepeatsLater, RepeatsEarlier, ActivatedIn, ActivatedAt, FulfilledAt, WithoutAt, NoLaterAt, NoEarlierAt, NextAt, PreviousAt, RepeatedLaterAt, RepeatedEarlierAt, TwoAre, CountsPlaces}
+use Rattle.template_core.specs.Repertoire.{each, each_of, at_first, none, alternates_later, alternates_earlier, is_activated_in, is_activated, is_fulfilled}
 use Rattle.template_core.specs.Tests.{has, has_later, has_earlier, has_next, has_previous, repeats_later, repeats_earlier}
+use Rattle.template_core.specs.Groups.{group_of, activation_of}
+use Rattle.template_core.specs.declared.group.Group.{Group}
+use Rattle.template_core.specs.declared.group.Group.TheVariants.{Existence, Relation, Mutual, Negative}
 use Rattle.template_core.specs.declared.kind.Kind.{Kind}
 use Rattle.template_core.specs.declared.kind.Kind.TheVariants.{Init, End, Participation, AtMostOne, ChainSuccession, AlternateSuccession, Succession, CoExistence, ChainResponse, AlternateResponse, Response, ChainPrecedence, AlternatePrecedence, Precedence, RespondedExistence, NotCoExistence, NotSuccession, NotChainSuccession}
 
@@ -185,25 +188,14 @@ each_of-iff a b =
 whole-iff : (n i : ℕ) → eqb i n ≡ true ↔ i ≡ n
 whole-iff n i = (eqb-true i n, eq-eqb i n)
 
+activated_in-iff : (group : Group) (a b : ℕ) (trace : List ℕ) (i : ℕ) → is_activated_in nat_eq group a b trace i ≡ true ↔ ActivatedIn group a b trace i
+activated_in-iff Existence a b trace i = whole-iff (length trace) i
+activated_in-iff (Relation activation) a b trace i = each-iff (activation_of activation a b) trace i
+activated_in-iff Mutual a b trace i = each_of-iff a b trace i
+activated_in-iff Negative a b trace i = each_of-iff a b trace i
+
 pub activated-iff : (kind : Kind) (a b : ℕ) (trace : List ℕ) (i : ℕ) → is_activated nat_eq kind a b trace i ≡ true ↔ ActivatedAt kind a b trace i
-activated-iff Init a b trace i = whole-iff (length trace) i
-activated-iff End a b trace i = whole-iff (length trace) i
-activated-iff Participation a b trace i = whole-iff (length trace) i
-activated-iff AtMostOne a b trace i = whole-iff (length trace) i
-activated-iff ChainSuccession a b trace i = each_of-iff a b trace i
-activated-iff AlternateSuccession a b trace i = each_of-iff a b trace i
-activated-iff Succession a b trace i = each_of-iff a b trace i
-activated-iff CoExistence a b trace i = each_of-iff a b trace i
-activated-iff ChainResponse a b trace i = each-iff a trace i
-activated-iff AlternateResponse a b trace i = each-iff a trace i
-activated-iff Response a b trace i = each-iff a trace i
-activated-iff ChainPrecedence a b trace i = each-iff b trace i
-activated-iff AlternatePrecedence a b trace i = each-iff b trace i
-activated-iff Precedence a b trace i = each-iff b trace i
-activated-iff RespondedExistence a b trace i = each-iff a trace i
-activated-iff NotCoExistence a b trace i = each_of-iff a b trace i
-activated-iff NotSuccession a b trace i = each_of-iff a b trace i
-activated-iff NotChainSuccession a b trace i = each_of-iff a b trace i
+activated-iff kind a b trace i = activated_in-iff (group_of kind) a b trace i
 
 -- two different events are a
 pub two-iff : (a : ℕ) (s : List ℕ) → nat_lt 1 (occurrences nat_eq a s) ≡ true ↔ TwoAre a s

@@ -1,16 +1,15 @@
 -- Which activities a constraint may have.
 use Rattle.std.specs.Prelude.{◌≡◌, ◌≢◌, ℕ, ◌<◌}
+use Rattle.template_core.specs.Groups.{group_of, activities_of}
+use Rattle.template_core.specs.declared.group.Group.{Group}
+use Rattle.template_core.specs.declared.group.Group.TheVariants.{Existence, Relation, Mutual, Negative}
 use Rattle.template_core.specs.declared.constraint.Constraint.{Constraint}
 use Rattle.template_core.specs.declared.kind.Kind.{Kind}
 use Rattle.template_core.specs.declared.kind.Kind.TheVariants.{Init, End, Participation, AtMostOne, ChainSuccession, AlternateSuccession, Succession, CoExistence, ChainResponse, AlternateResponse, Response, ChainPrecedence, AlternatePrecedence, Precedence, RespondedExistence, NotCoExistence, NotSuccession, NotChainSuccession}
 
 -- the number of a template's activities
 abbrev pub arity : Kind → ℕ
-arity Init = 1
-arity End = 1
-arity Participation = 1
-arity AtMostOne = 1
-arity kind = 2
+arity kind = activities_of (group_of kind)
 
 -- the numbers of the templates
 abbrev pub number_of : Kind → ℕ
@@ -34,12 +33,14 @@ number_of NotSuccession = 17
 number_of NotChainSuccession = 18
 
 -- a template of two activities has two different ones; of a template of one activity both numbers are that one
+abbrev pub IsWellMadeIn : Group → ℕ → ℕ → Type 0
+IsWellMadeIn Existence a b = a ≡ b
+IsWellMadeIn (Relation activation) a b = a ≢ b
+IsWellMadeIn Mutual a b = a ≢ b
+IsWellMadeIn Negative a b = a ≢ b
+
 abbrev pub IsWellMade : Kind → ℕ → ℕ → Type 0
-IsWellMade Init a b = a ≡ b
-IsWellMade End a b = a ≡ b
-IsWellMade Participation a b = a ≡ b
-IsWellMade AtMostOne a b = a ≡ b
-IsWellMade kind a b = a ≢ b
+IsWellMade kind a b = IsWellMadeIn (group_of kind) a b
 
 -- a constraint over n activities
 pub record IsWellMadeFor (n : ℕ) (c : Constraint) : Type 0 where

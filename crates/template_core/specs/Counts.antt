@@ -3,11 +3,13 @@ use Rattle.std.specs.Prelude.{◌≡◌, ℕ, ◌≤◌, List, Bool, length, cou
 use Rattle.template_core.specs.Constraints.{IsWellMade}
 use Rattle.template_core.specs.Counters.{occurrences, without, no_later, no_earlier, next, previous, rep_later, rep_earlier}
 use Rattle.template_core.specs.Events.{occurs, is_first, is_last}
+use Rattle.template_core.specs.Groups.{group_of, activation_of, target_of}
+use Rattle.template_core.specs.declared.group.Group.{Group}
+use Rattle.template_core.specs.declared.group.Group.TheVariants.{Existence, Relation, Mutual, Negative}
 use Rattle.template_core.specs.declared.counts.Counts.{Counts}
 use Rattle.template_core.specs.declared.counts.PairCounts.{PairCounts}
 use Rattle.template_core.specs.declared.counts.UnaryCounts.{UnaryCounts}
 use Rattle.template_core.specs.declared.kind.Kind.{Kind}
-use Rattle.template_core.specs.declared.kind.Kind.TheVariants.{Init, End, Participation, AtMostOne, ChainResponse, AlternateResponse, Response, ChainPrecedence, AlternatePrecedence, Precedence, RespondedExistence}
 
 -- the counters of an activity: its events; the traces with it, with two or more of it, that begin with it, that end with it
 abbrev pub unary_counts : ℕ → List (List ℕ) → UnaryCounts
@@ -46,12 +48,14 @@ no_pair = record {
 }
 
 -- a template of one activity has no pair
+abbrev pub pair_in : Group → ℕ → ℕ → List (List ℕ) → PairCounts
+pair_in Existence a b log = no_pair
+pair_in (Relation activation) a b log = pair_counts a b log
+pair_in Mutual a b log = pair_counts a b log
+pair_in Negative a b log = pair_counts a b log
+
 abbrev pub pair_of : Kind → ℕ → ℕ → List (List ℕ) → PairCounts
-pair_of Init a b log = no_pair
-pair_of End a b log = no_pair
-pair_of Participation a b log = no_pair
-pair_of AtMostOne a b log = no_pair
-pair_of kind a b log = pair_counts a b log
+pair_of kind a b log = pair_in (group_of kind) a b log
 
 -- the counters that a constraint needs
 abbrev pub counts_of : Kind → ℕ → ℕ → List (List ℕ) → Counts
@@ -82,31 +86,21 @@ module _ {A : Type 0} (same : A → A → Bool) where
   traces_with_either a b log = count_by (λ trace. occurs same a trace || occurs same b trace) log
 
   -- existence: all traces; relation: the traces with the activation; mutual and negative: the traces with a or b
+  abbrev pub traces_in : Group → A → A → List (List A) → ℕ
+  traces_in Existence a b log = length log
+  traces_in (Relation activation) a b log = traces_with (activation_of activation a b) log
+  traces_in Mutual a b log = traces_with_either a b log
+  traces_in Negative a b log = traces_with_either a b log
+
   abbrev pub traces_of : Kind → A → A → List (List A) → ℕ
-  traces_of Init a b log = length log
-  traces_of End a b log = length log
-  traces_of Participation a b log = length log
-  traces_of AtMostOne a b log = length log
-  traces_of ChainResponse a b log = traces_with a log
-  traces_of AlternateResponse a b log = traces_with a log
-  traces_of Response a b log = traces_with a log
-  traces_of ChainPrecedence a b log = traces_with b log
-  traces_of AlternatePrecedence a b log = traces_with b log
-  traces_of Precedence a b log = traces_with b log
-  traces_of RespondedExistence a b log = traces_with a log
-  traces_of kind a b log = traces_with_either a b log
+  traces_of kind a b log = traces_in (group_of kind) a b log
 
   -- existence: the traces with a; relation: the traces with the target; mutual and negative: the lesser of those with a and with b
+  abbrev pub targets_in : Group → A → A → List (List A) → ℕ
+  targets_in Existence a b log = traces_with a log
+  targets_in (Relation activation) a b log = traces_with (target_of activation a b) log
+  targets_in Mutual a b log = min (traces_with a log) (traces_with b log)
+  targets_in Negative a b log = min (traces_with a log) (traces_with b log)
+
   abbrev pub targets_of : Kind → A → A → List (List A) → ℕ
-  targets_of Init a b log = traces_with a log
-  targets_of End a b log = traces_with a log
-  targets_of Participation a b log = traces_with a log
-  targets_of AtMostOne a b log = traces_with a log
-  targets_of ChainResponse a b log = traces_with b log
-  targets_of AlternateResponse a b log = traces_with b log
-  targets_of Response a b log = traces_with b log
-  targets_of ChainPrecedence a b log = traces_with a log
-  targets_of AlternatePrecedence a b log = traces_with a log
-  targets_of Precedence a b log = traces_with a log
-  targets_of RespondedExistence a b log = traces_with b log
-  targets_of kind a b log = min (traces_with a log) (traces_with b log)
+  targets_of kind a b log = targets_in (group_of kind) a b log

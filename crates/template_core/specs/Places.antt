@@ -1,6 +1,9 @@
 -- The repertoire and the counters in words of places: i, j and k are places of the whole trace.
 use Rattle.std.specs.Prelude.{◌≡◌, ◌↔◌, ◌⊎◌, ℕ, ◌+◌, ◌-◌, ◌<◌, List, Bool, true, Some, length, slice_get}
 use Rattle.template_core.specs.Events.{count_places}
+use Rattle.template_core.specs.Groups.{group_of, activation_of}
+use Rattle.template_core.specs.declared.group.Group.{Group}
+use Rattle.template_core.specs.declared.group.Group.TheVariants.{Existence, Relation, Mutual, Negative}
 use Rattle.template_core.specs.declared.kind.Kind.{Kind}
 use Rattle.template_core.specs.declared.kind.Kind.TheVariants.{Init, End, Participation, AtMostOne, ChainSuccession, AlternateSuccession, Succession, CoExistence, ChainResponse, AlternateResponse, Response, ChainPrecedence, AlternatePrecedence, Precedence, RespondedExistence, NotCoExistence, NotSuccession, NotChainSuccession}
 
@@ -44,19 +47,14 @@ module _ {A : Type 0} where
   AtEach a b P Q trace i = (EventIs a trace i → P i) × (EventIs b trace i → Q i)
 
   -- the place is activated: templates of one activity, relation templates, mutual and negative templates
+  abbrev pub ActivatedIn : Group → A → A → List A → ℕ → Type 0
+  ActivatedIn Existence a b trace i = i ≡ length trace
+  ActivatedIn (Relation activation) a b trace i = EventIs (activation_of activation a b) trace i
+  ActivatedIn Mutual a b trace i = EventIs a trace i ⊎ EventIs b trace i
+  ActivatedIn Negative a b trace i = EventIs a trace i ⊎ EventIs b trace i
+
   abbrev pub ActivatedAt : Kind → A → A → List A → ℕ → Type 0
-  ActivatedAt Init a b trace i = i ≡ length trace
-  ActivatedAt End a b trace i = i ≡ length trace
-  ActivatedAt Participation a b trace i = i ≡ length trace
-  ActivatedAt AtMostOne a b trace i = i ≡ length trace
-  ActivatedAt ChainResponse a b trace i = EventIs a trace i
-  ActivatedAt AlternateResponse a b trace i = EventIs a trace i
-  ActivatedAt Response a b trace i = EventIs a trace i
-  ActivatedAt ChainPrecedence a b trace i = EventIs b trace i
-  ActivatedAt AlternatePrecedence a b trace i = EventIs b trace i
-  ActivatedAt Precedence a b trace i = EventIs b trace i
-  ActivatedAt RespondedExistence a b trace i = EventIs a trace i
-  ActivatedAt kind a b trace i = EventIs a trace i ⊎ EventIs b trace i
+  ActivatedAt kind a b trace i = ActivatedIn (group_of kind) a b trace i
 
   -- the activated place is fulfilled
   abbrev pub FulfilledAt : Kind → A → A → List A → ℕ → Type 0

@@ -5,6 +5,9 @@ use Rattle.std.specs.List.{range_with_len}
 use Rattle.template_core.specs.Counters.{occurrences}
 use Rattle.template_core.specs.Events.{count_places, all_places, at_place, occurs, is_first, is_last, before_first, after_last}
 use Rattle.template_core.specs.Tests.{has, has_later, has_earlier, has_next, has_previous}
+use Rattle.template_core.specs.Groups.{group_of, activation_of}
+use Rattle.template_core.specs.declared.group.Group.{Group}
+use Rattle.template_core.specs.declared.group.Group.TheVariants.{Existence, Relation, Mutual, Negative}
 use Rattle.template_core.specs.declared.kind.Kind.{Kind}
 use Rattle.template_core.specs.declared.kind.Kind.TheVariants.{Init, End, Participation, AtMostOne, ChainSuccession, AlternateSuccession, Succession, CoExistence, ChainResponse, AlternateResponse, Response, ChainPrecedence, AlternatePrecedence, Precedence, RespondedExistence, NotCoExistence, NotSuccession, NotChainSuccession}
 
@@ -30,63 +33,37 @@ module _ {A : Type 0} (same : A → A → Bool) where
   abbrev pub alternates_earlier : A → A → List A → A → List A → Bool
   alternates_earlier a b before event after = occurs same a before && not (occurs same b (after_last same a before))
 
-  -- the events that activate a template; no event activates a template of one activity
-  abbrev pub activates : Kind → A → A → List A → A → List A → Bool
-  activates Init a b before event after = false
-  activates End a b before event after = false
-  activates Participation a b before event after = false
-  activates AtMostOne a b before event after = false
-  activates ChainSuccession a b before event after = each_of a b before event after
-  activates AlternateSuccession a b before event after = each_of a b before event after
-  activates Succession a b before event after = each_of a b before event after
-  activates CoExistence a b before event after = each_of a b before event after
-  activates ChainResponse a b before event after = each a before event after
-  activates AlternateResponse a b before event after = each a before event after
-  activates Response a b before event after = each a before event after
-  activates ChainPrecedence a b before event after = each b before event after
-  activates AlternatePrecedence a b before event after = each b before event after
-  activates Precedence a b before event after = each b before event after
-  activates RespondedExistence a b before event after = each a before event after
-  activates NotCoExistence a b before event after = each_of a b before event after
-  activates NotSuccession a b before event after = each_of a b before event after
-  activates NotChainSuccession a b before event after = each_of a b before event after
+  -- a template of one activity is activated at the place of the whole trace; a relation template at each event that is its activation;
+  -- a mutual or a negative template at each event that is one of its two activities
+  abbrev pub is_activated_in : Group → A → A → List A → ℕ → Bool
+  is_activated_in Existence a b trace place = place == length trace
+  is_activated_in (Relation activation) a b trace place = at_place (each (activation_of activation a b)) trace place
+  is_activated_in Mutual a b trace place = at_place (each_of a b) trace place
+  is_activated_in Negative a b trace place = at_place (each_of a b) trace place
 
-  -- where such an event fulfils it
-  abbrev pub fulfils : Kind → A → A → List A → A → List A → Bool
-  fulfils Init a b before event after = false
-  fulfils End a b before event after = false
-  fulfils Participation a b before event after = false
-  fulfils AtMostOne a b before event after = false
-  fulfils ChainSuccession a b before event after = at_first a (has_next same b) (has_previous same a) before event after
-  fulfils AlternateSuccession a b before event after = at_first a (alternates_later a b) (alternates_earlier a b) before event after
-  fulfils Succession a b before event after = at_first a (has_later same b) (has_earlier same a) before event after
-  fulfils CoExistence a b before event after = at_first a (has same b) (has same a) before event after
-  fulfils ChainResponse a b before event after = has_next same b before event after
-  fulfils AlternateResponse a b before event after = alternates_later a b before event after
-  fulfils Response a b before event after = has_later same b before event after
-  fulfils ChainPrecedence a b before event after = has_previous same a before event after
-  fulfils AlternatePrecedence a b before event after = alternates_earlier a b before event after
-  fulfils Precedence a b before event after = has_earlier same a before event after
-  fulfils RespondedExistence a b before event after = has same b before event after
-  fulfils NotCoExistence a b before event after = at_first a (none (has same b)) (none (has same a)) before event after
-  fulfils NotSuccession a b before event after = at_first a (none (has_later same b)) (none (has_earlier same a)) before event after
-  fulfils NotChainSuccession a b before event after = at_first a (none (has_next same b)) (none (has_previous same a)) before event after
-
-  -- a template of one activity is activated at the place of the whole trace
   abbrev pub is_activated : Kind → A → A → List A → ℕ → Bool
-  is_activated Init a b trace place = place == length trace
-  is_activated End a b trace place = place == length trace
-  is_activated Participation a b trace place = place == length trace
-  is_activated AtMostOne a b trace place = place == length trace
-  is_activated kind a b trace place = at_place (activates kind a b) trace place
+  is_activated kind a b trace place = is_activated_in (group_of kind) a b trace place
 
-  -- and fulfilled where the trace begins with a; ends with a; has an a; has no two
+  -- where such a place is fulfilled: the trace begins with a; ends with a; has an a; has no two; the others by the event and those around it
   abbrev pub is_fulfilled : Kind → A → A → List A → ℕ → Bool
   is_fulfilled Init a b trace place = is_first same a trace
   is_fulfilled End a b trace place = is_last same a trace
   is_fulfilled Participation a b trace place = occurs same a trace
   is_fulfilled AtMostOne a b trace place = nat_lt (occurrences same a trace) 2
-  is_fulfilled kind a b trace place = at_place (fulfils kind a b) trace place
+  is_fulfilled ChainSuccession a b trace place = at_place (at_first a (has_next same b) (has_previous same a)) trace place
+  is_fulfilled AlternateSuccession a b trace place = at_place (at_first a (alternates_later a b) (alternates_earlier a b)) trace place
+  is_fulfilled Succession a b trace place = at_place (at_first a (has_later same b) (has_earlier same a)) trace place
+  is_fulfilled CoExistence a b trace place = at_place (at_first a (has same b) (has same a)) trace place
+  is_fulfilled ChainResponse a b trace place = at_place (has_next same b) trace place
+  is_fulfilled AlternateResponse a b trace place = at_place (alternates_later a b) trace place
+  is_fulfilled Response a b trace place = at_place (has_later same b) trace place
+  is_fulfilled ChainPrecedence a b trace place = at_place (has_previous same a) trace place
+  is_fulfilled AlternatePrecedence a b trace place = at_place (alternates_earlier a b) trace place
+  is_fulfilled Precedence a b trace place = at_place (has_earlier same a) trace place
+  is_fulfilled RespondedExistence a b trace place = at_place (has same b) trace place
+  is_fulfilled NotCoExistence a b trace place = at_place (at_first a (none (has same b)) (none (has same a))) trace place
+  is_fulfilled NotSuccession a b trace place = at_place (at_first a (none (has_later same b)) (none (has_earlier same a))) trace place
+  is_fulfilled NotChainSuccession a b trace place = at_place (at_first a (none (has_next same b)) (none (has_previous same a))) trace place
 
   -- a trace keeps a constraint where each activated place is fulfilled
   abbrev pub Keeps : Kind → A → A → List A → Type 0

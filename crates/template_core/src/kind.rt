@@ -1,3 +1,6 @@
+ghost use Rattle.std.specs.Prelude.{◌≡◌};
+ghost use Rattle.template_core.specs.Constraints.{number_of};
+
 /// A template of the repertoire. Their order is that of the template numbers, from 1.
 #[derive(Clone, Copy, Debug, PartialEq, Eq)]
 pub enum Kind {
@@ -19,4 +22,11 @@ pub enum Kind {
     NotCoExistence,
     NotSuccession,
     NotChainSuccession,
+}
+
+/// A template's number.
+pub fn number_of(kind: Kind) -> u8
+    ensures { result ≡ number_of kind }
+{
+    kind as u8 + 1
 }

@@ -1,3 +1,4 @@
+pub mod Hierarchy
 pub mod Names
 pub mod Numbers
 pub mod Tables

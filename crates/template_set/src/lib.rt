@@ -2,10 +2,12 @@
 #![tactic(auto)]
 
 mod dispatch;
+mod hierarchy;
 mod names;
 mod numbers;
 mod tables;
 
+pub use hierarchy::{stronger, stronger_is_strict, stronger_keeps};
 pub use names::{kind_of, kinds, name};
 pub use numbers::{Numbers, arity, counts_of};
 pub use tables::table_of;

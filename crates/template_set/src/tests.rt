@@ -1,8 +1,8 @@
 ghost use Rattle.std.specs.Prelude.{◌<◌};
 ghost use Rattle.template_core.specs.Tables.{IsTable};
 
-use crate::{arity, kind_of, kinds, name, table_of};
-use template_core::{Class, Kind, Table};
+use crate::{arity, kind_of, kinds, name, stronger, table_of};
+use template_core::{Class, Constraint, Kind, Table};
 
 /// Whether the table accepts the word whose classes are the digits of a number to the base three, from the least one on.
 fn accepts(table: &Table, number: u32, length: u32) -> bool
@@ -77,5 +77,58 @@ fn names_and_arities(rt: HostRuntime) {
     assert_eq!(rt; two, 14);
     for text in ["participation", "Response ", "", "AtLeast2"] {
         assert_eq!(rt; kind_of(text), None, "{text}");
+    }
+}
+
+/// How many constraints over 0 and 1, and how many over 1 and 0, the hierarchy puts below one over 0 and 1.
+fn below(kind: Kind) -> (u32, u32) {
+    let above = Constraint {
+        kind,
+        first: 0,
+        second: 1,
+    };
+    let mut counts: (u32, u32) = (0, 0);
+    for kind in kinds() {
+        let onward = Constraint {
+            kind,
+            first: 0,
+            second: 1,
+        };
+        let back = Constraint {
+            kind,
+            first: 1,
+            second: 0,
+        };
+        if stronger(&above, &onward) {
+            counts.0 = counts.0.wrapping_add(1);
+        }
+        if stronger(&above, &back) {
+            counts.1 = counts.1.wrapping_add(1);
+        }
+    }
+    counts
+}
+
+#[test]
+fn how_many_stand_below(rt: HostRuntime) {
+    for (kind, counts) in [
+        (Kind::Participation, (0, 0)),
+        (Kind::AtMostOne, (0, 0)),
+        (Kind::ChainSuccession, (10, 2)),
+        (Kind::AlternateSuccession, (7, 2)),
+        (Kind::Succession, (4, 2)),
+        (Kind::CoExistence, (1, 1)),
+        (Kind::ChainResponse, (3, 0)),
+        (Kind::AlternateResponse, (2, 0)),
+        (Kind::Response, (1, 0)),
+        (Kind::ChainPrecedence, (2, 1)),
+        (Kind::AlternatePrecedence, (1, 1)),
+        (Kind::Precedence, (0, 1)),
+        (Kind::RespondedExistence, (0, 0)),
+        (Kind::NotCoExistence, (2, 2)),
+        (Kind::NotSuccession, (1, 0)),
+        (Kind::NotChainSuccession, (0, 0)),
+    ] {
+        assert_eq!(rt; below(kind), counts, "{kind:?}");
     }
 }

@@ -1,13 +1,15 @@
 -- A walk over pairs is two runs side by side.
 use Rattle.std.proofs.Common.{◌≡◌, ℕ, ◌+◌, ◌*◌, ◌<◌, List, [], ◌∷◌, Option, Some, None, MatchOption, Bool, true, false, not, ◌&&◌, cond, refl, sym, ap, ◌∙◌}
 use Rattle.std.proofs.lemmas.Nat.{div-mul-add, mod-mul-add}
-use Rattle.dfa_core.specs.Automaton.{Automaton, accepts, is_accepting, run, step}
+use Rattle.dfa_core.proofs.Runs.{run-bound}
+use Rattle.dfa_core.specs.Automaton.{Automaton, IsWhole, accepts, is_accepting, run, state_count, step}
+use Rattle.dfa_core.specs.Traces.{IsTrace}
 use Rattle.dfa_core.specs.Graph.{Allows, walk, allows, IsReachable, graph_of}
 use Rattle.dfa_core.specs.Languages.{HasNoMember, IsLeastMember}
 use Rattle.template_core.specs.Tables.{IsTable, class, keeps_by, table_run, step as table_step}
 use Rattle.template_core.specs.declared.constraint.Constraint.{Constraint}
 use Rattle.template_core.specs.declared.table.Table.{Table}
-use Rattle.dfa_product.specs.Pairs.{pairs, IsMeet}
+use Rattle.dfa_product.specs.Pairs.{both, pairs, IsIntersection, IsMeet}
 use Rattle.dfa_product.specs.Wanted.{IsWanted}
 use Rattle.dfa_product.specs.declared.wanted.Want.TheVariants.{Accepted, Beside}
 
@@ -31,6 +33,24 @@ pub meet-reachable : (a : Automaton) (t : Table) (c : Constraint) (r : Automaton
 meet-reachable a t c r h is = record {
   over = is.over;
   both = λ w tw. is.same w tw ∙ allows-pairs a t c true h w;
+  few_states = is.few;
+}
+
+walk-both : (a b : Automaton) → IsWhole b → (q p : ℕ) (w : List ℕ) → p < state_count b → IsTrace b.symbols w
+    → walk (both a b) (q * state_count b + p) w ≡ run a q w * state_count b + run b p w
+walk-both a b h q p [] lt tw = refl
+walk-both a b h q p (x ∷ w) lt tw =
+    rw (div-mul-add q (state_count b) p lt, mod-mul-add q (state_count b) p lt) (walk-both a b h (step a q x) (step b p x) w (h.step_bound p x lt tw.0) tw.1)
+
+allows-both : (a b : Automaton) → IsWhole b → (w : List ℕ) → IsTrace b.symbols w → allows (both a b) w ≡ (accepts a w && accepts b w)
+allows-both a b h w tw =
+    let lt = run-bound b h b.start w h.start_bound tw in
+    rw (walk-both a b h a.start b.start w h.start_bound tw, div-mul-add (run a a.start w) (state_count b) (run b b.start w) lt, mod-mul-add (run a a.start w) (state_count b) (run b b.start w) lt) refl
+
+pub intersection-reachable : (a b r : Automaton) → IsWhole b → b.symbols ≡ a.symbols → IsReachable (both a b) r → IsIntersection a b r
+intersection-reachable a b r h same is = record {
+  over = is.over;
+  both = λ w tw. let t : IsTrace b.symbols w = rw same tw in is.same w tw ∙ allows-both a b h w t;
   few_states = is.few;
 }
 

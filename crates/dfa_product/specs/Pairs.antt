@@ -1,4 +1,4 @@
--- Pairs of a state of an automaton and a state of a constraint's table.
+-- Pairs of a state of an automaton and a state of a constraint's table, or of two automata.
 use Rattle.std.specs.Prelude.{◌≡◌, ℕ, ◌*◌, ◌+◌, ◌/◌, ◌%◌, ◌≤◌, List, Bool, ◌&&◌, not, if◌then◌else◌}
 use Rattle.dfa_core.specs.Traces.{IsTrace}
 use Rattle.dfa_core.specs.Automaton.{Automaton, accepts, is_accepting, state_count, step}
@@ -22,3 +22,19 @@ pub record IsMeet (a : Automaton) (t : Table) (c : Constraint) (r : Automaton) :
   pub over : r.symbols ≡ a.symbols
   pub both : (w : List ℕ) → IsTrace a.symbols w → accepts r w ≡ (accepts a w && keeps_by t c w)
   pub few_states : state_count r ≤ state_count a * t.states
+
+-- Two automata over the same symbols. A walk may end where both accept.
+abbrev pub both : Automaton → Automaton → Graph
+both a b = record {
+  symbols = a.symbols;
+  nodes = state_count a * state_count b;
+  first = a.start * state_count b + b.start;
+  next = λ node x. step a (node / state_count b) x * state_count b + step b (node % state_count b) x;
+  accepting = λ node. is_accepting a (node / state_count b) && is_accepting b (node % state_count b);
+}
+
+-- It accepts the traces that both automata accept, with at most as many states as there are pairs of theirs.
+pub record IsIntersection (a b r : Automaton) : Type 0 where
+  pub over : r.symbols ≡ a.symbols
+  pub both : (w : List ℕ) → IsTrace a.symbols w → accepts r w ≡ (accepts a w && accepts b w)
+  pub few_states : state_count r ≤ state_count a * state_count b

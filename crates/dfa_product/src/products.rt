@@ -1,9 +1,9 @@
 ghost use Rattle.std.specs.Prelude.{◌≡◌, ◌<◌, ◌*◌, ◌^◌, IfOk, IfErr};
 ghost use Rattle.dfa_core.specs.Automaton.{IsBreadthFirst, state_count};
 ghost use Rattle.template_core.specs.Tables.{IsTable};
-ghost use Rattle.dfa_product.specs.Pairs.{IsMeet};
+ghost use Rattle.dfa_product.specs.Pairs.{IsIntersection, IsMeet};
 
-use crate::pairs::Product;
+use crate::pairs::{Both, Product};
 use decl_base::Refusal;
 use dfa_core::{Dfa, reachable};
 use std::alloc::Global;
@@ -29,4 +29,20 @@ pub fn meet(
         keeps: true,
     };
     reachable(alloc, &product)
+}
+
+/// The automaton of the traces that both automata accept. It has at most as many states as there are pairs of theirs.
+pub fn intersection(alloc: Global, first: &Dfa, second: &Dfa) -> Result<Dfa, Refusal>
+    requires same_symbols { second.now.symbols ≡ first.now.symbols }
+    requires fits { state_count first.now * state_count second.now < 2 ^ 32 }
+    ensures language { IfOk result (IsIntersection first.now second.now) }
+    ensures reached { IfOk result IsBreadthFirst }
+    ensures err { IfErr result (λ e. e ≡ Refusal.Memory) }
+{
+    let both = Both {
+        first,
+        second,
+        width: second.states(),
+    };
+    reachable(alloc, &both)
 }

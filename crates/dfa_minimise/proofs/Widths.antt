@@ -1,7 +1,7 @@
 -- How many states a least automaton has, and how many traces its language tells apart.
 use Rattle.std.proofs.Common.{◌≡◌, ◌≢◌, ℕ, suc, ◌<◌, ◌≤◌, inl, inr, List, [], ◌∷◌, ◌++◌, Bool, true, false, IsTrue, ◌↔◌, refl, sym, ap, ◌∙◌, arith}
 use Rattle.std.proofs.lemmas.Bool.{cases_eq, cases_lt}
-use Rattle.dfa_core.specs.Automaton.{Automaton, IsWhole, IsBreadthFirst, Accepts, accepts, is_accepting, run, state_count}
+use Rattle.dfa_core.specs.Automaton.{Automaton, IsWhole, IsBreadthFirst, Accepts, accepts, is_accepting, run, state_count, steps_of}
 use Rattle.dfa_core.specs.Traces.{IsTrace}
 use Rattle.dfa_core.proofs.Pigeons.{TakesNoneTwice, le_from_injection}
 use Rattle.dfa_core.proofs.Runs.{run-append, run-bound}
@@ -11,7 +11,7 @@ use Rattle.dfa_minimise.specs.Wide.{TellsApart, IsWide}
 -- traces that are told apart lead to different states
 states_differ : (a : Automaton) (u v : List ℕ) → TellsApart a.symbols (Accepts a) u v → run a a.start u ≢ run a a.start v
 states_differ a u v t same =
-    let e : accepts a (u ++ t.by) ≡ accepts a (v ++ t.by) = ap (is_accepting a) (run-append a a.start u t.by ∙ (ap (λ q. run a q t.by) same ∙ sym (run-append a a.start v t.by))) in
+    let e : accepts a (u ++ t.by) ≡ accepts a (v ++ t.by) = ap (is_accepting a) (run-append (steps_of a) a.start u t.by ∙ (ap (λ q. run a q t.by) same ∙ sym (run-append (steps_of a) a.start v t.by))) in
     t.differs (λ is. sym e ∙ is, λ is. e ∙ is)
 
 -- a language that is wide for s wants more states than s
@@ -50,8 +50,8 @@ wide-from_states a s least order lt = record {
         by = t.by;
         over = t.over;
         differs = λ same. t.differs (
-            ap (is_accepting a) (ap (λ q. run a q t.by) (sym (order.reached i li)) ∙ sym (run-append a a.start (order.to i) t.by))
-            ∙ (both_or_none (accepts a (order.to i ++ t.by)) (accepts a (order.to j ++ t.by)) same ∙ ap (is_accepting a) (run-append a a.start (order.to j) t.by ∙ ap (λ q. run a q t.by) (order.reached j lj)))
+            ap (is_accepting a) (ap (λ q. run a q t.by) (sym (order.reached i li)) ∙ sym (run-append (steps_of a) a.start (order.to i) t.by))
+            ∙ (both_or_none (accepts a (order.to i ++ t.by)) (accepts a (order.to j ++ t.by)) same ∙ ap (is_accepting a) (run-append (steps_of a) a.start (order.to j) t.by ∙ ap (λ q. run a q t.by) (order.reached j lj)))
             );
       };
 }

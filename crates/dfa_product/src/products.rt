@@ -3,7 +3,7 @@ ghost use Rattle.dfa_core.specs.Automaton.{IsBreadthFirst, state_count};
 ghost use Rattle.template_core.specs.Tables.{IsTable};
 ghost use Rattle.dfa_product.specs.Pairs.{IsIntersection, IsMeet};
 
-use crate::pairs::{Both, Product};
+use crate::pairs::{Pairs, TableSteps};
 use decl_base::Refusal;
 use dfa_core::{Dfa, reachable};
 use std::alloc::Global;
@@ -22,13 +22,18 @@ pub fn meet(
     ensures reached { IfOk result IsBreadthFirst }
     ensures err { IfErr result (λ e. e ≡ Refusal.Memory) }
 {
-    let product = Product {
-        dfa,
+    let second = TableSteps {
+        symbols: dfa.symbols(),
         table,
         constraint,
         keeps: true,
     };
-    reachable(alloc, &product)
+    let pairs = Pairs {
+        first: dfa,
+        second: &second,
+        width: table.states as u32,
+    };
+    reachable(alloc, &pairs)
 }
 
 /// The automaton of the traces that both automata accept. It has at most as many states as there are pairs of theirs.
@@ -39,10 +44,10 @@ pub fn intersection(alloc: Global, first: &Dfa, second: &Dfa) -> Result<Dfa, Ref
     ensures reached { IfOk result IsBreadthFirst }
     ensures err { IfErr result (λ e. e ≡ Refusal.Memory) }
 {
-    let both = Both {
+    let pairs = Pairs {
         first,
         second,
         width: second.states(),
     };
-    reachable(alloc, &both)
+    reachable(alloc, &pairs)
 }

@@ -1,17 +1,17 @@
--- The least traces to what a search found.
-use Rattle.std.proofs.Common.{◌≡◌, ◌⊎◌, inl, inr, ℕ, zero, suc, ◌+◌, ◌*◌, ◌/◌, ◌%◌, ◌<◌, ◌≤◌, List, [], ◌∷◌, ◌++◌, Bool, true, false, map, reverse, length, get_or, refl, sym, ap, ◌∙◌, arith, append_assoc}
-use Rattle.std.proofs.lemmas.List.{append-nil, reverse-append, get_or-map}
-use Rattle.std.proofs.lemmas.Nat.{div_below, div-add-mod'}
+-- The least traces to the states that a search found.
+use Rattle.std.proofs.Common.{◌≡◌, ◌⊎◌, inl, inr, ℕ, zero, suc, ◌+◌, ◌*◌, ◌/◌, ◌%◌, ◌<◌, ◌≤◌, List, [], ◌∷◌, ◌++◌, Bool, true, false, map, reverse, take, length, get_or, refl, sym, ap, ◌∙◌, arith, append_assoc}
+use Rattle.std.proofs.lemmas.List.{append-nil, reverse-append, get_or-map, take_all}
+use Rattle.std.proofs.lemmas.Nat.{div_below, div-add-mod', mul-add-lt}
 use Rattle.std.proofs.lemmas.Bool.{cases_eq, cases_lt}
-use Rattle.std.proofs.Math.Nat.{mul-le-mul_right, mod-lt}
-use Rattle.dfa_core.specs.Automaton.{Automaton, automaton, IsWhole, IsBreadthFirst, step, run}
-use Rattle.dfa_core.specs.Traces.{IsTrace}
-use Rattle.dfa_core.specs.Exploring.{IsExplored, path}
-use Rattle.dfa_core.specs.Graph.{Graph, Allows, IsReachable, allows, walk}
+use Rattle.std.proofs.Math.Nat.{mul-le-mul_right, mul_comm, mod-lt}
+use Rattle.dfa_core.specs.Steps.{Steps, Accepts, accepts, run}
+use Rattle.dfa_core.specs.Automaton.{Automaton, automaton, IsBreadthFirst, IsReachable, IsWhole, step, steps_of}
 use Rattle.dfa_core.specs.Languages.{HasNoMember, IsLeastMember}
+use Rattle.dfa_core.specs.Searching.{IsExplored, IsSearch, path}
 use Rattle.dfa_core.specs.Shortlex.{IsBefore, IsAtMost}
+use Rattle.dfa_core.specs.Traces.{IsTrace}
 use Rattle.dfa_core.proofs.Runs.{run-append, run-bound}
-use Rattle.dfa_core.proofs.Shortlex.{before-append, before-last, before-nil, at_most_trans, at_most-append, not_before}
+use Rattle.dfa_core.proofs.Shortlex.{before-append, before-last, before-nil, at_most_trans, at_most-append, at_most-longer, not_before}
 
 trace-push : (n : ℕ) (w : List ℕ) (x : ℕ) → IsTrace n w → x < n → IsTrace n (w ++ x ∷ [])
 trace-push n [] x h lt = (lt, tt)
@@ -54,81 +54,74 @@ pub path_more : (s : ℕ) (found : List ℕ) (n t : ℕ) (whole rest : List ℕ)
 path_more s found n t whole rest h p l e =
     e ∙ (rw (path-found s found n h t p l, reverse-append rest ((get_or found t 0 % s) ∷ [])) (append_assoc (path s found (get_or found t 0 / s) (get_or found t 0 / s)) ((get_or found t 0 % s) ∷ []) (reverse rest)))
 
-module _ (g : Graph) (nodes next found : List ℕ) (accepting : List Bool) (h : IsExplored g nodes next found) (e : length accepting ≡ length nodes) where
-  abbrev a : Automaton
-  a = automaton g.symbols 0 next accepting
+-- a trace, from where another leads, that leads to a number, and the path to that is at most both
+record IsMet (a : Steps) (states found : List ℕ) (q : ℕ) (u w : List ℕ) : Type 0 where
+  number : ℕ
+  bound : number < length states
+  is : run a q w ≡ get_or states number 0
+  least : IsAtMost (path a.symbols found number number) (u ++ w)
 
-  pub whole-explored : IsWhole a
-  unfolding step
-  whole-explored = record {
-    start_bound = omega (arith, h.some, e);
-    few_states = omega (arith, h.few, h.fits, e);
-    table_length = h.table_length ∙ ap (λ (n : ℕ). n * g.symbols) (sym e);
-    step_bound = λ q x lq lx. let b = h.entries q x (omega (arith, e, lq)) lx in omega (arith, e, b);
-  }
+-- a trace that takes a step that wasn't followed: all that was found stands before it
+record IsBehind (a : Steps) (states found : List ℕ) (done : ℕ) (w : List ℕ) : Type 0 where
+  more : done < length states * a.symbols
+  after : (t : ℕ) → t < length states → IsAtMost (path a.symbols found t t) w
 
-  -- the edge by which a number was found
+module _ (a : Steps) (states found : List ℕ) (done : ℕ) (h : IsSearch a states found done) where
+  -- the step by which a number was found
   abbrev parent : ℕ → ℕ
-  parent t = get_or found t 0 / g.symbols
+  parent t = get_or found t 0 / a.symbols
 
   abbrev symbol : ℕ → ℕ
-  symbol t = get_or found t 0 % g.symbols
+  symbol t = get_or found t 0 % a.symbols
 
-  place : (t : ℕ) → parent t * g.symbols + symbol t ≡ get_or found t 0
-  place t = div-add-mod' (get_or found t 0) g.symbols
+  place : (t : ℕ) → parent t * a.symbols + symbol t ≡ get_or found t 0
+  place t = div-add-mod' (get_or found t 0) a.symbols
 
-  earlier : (t : ℕ) → 0 < t → t < length nodes → parent t < t
-  earlier t p l = parent_earlier g.symbols found (length nodes) h.found_earlier t p l
+  earlier : (t : ℕ) → 0 < t → t < length states → parent t < t
+  earlier t p l = parent_earlier a.symbols found (length states) h.found_earlier t p l
 
-  symbol_below : (t : ℕ) → 0 < t → t < length nodes → symbol t < g.symbols
-  symbol_below t p l = mod-lt (get_or found t 0) (some_symbols g.symbols found (length nodes) h.found_earlier t p l)
-
-  leads : (t : ℕ) → 0 < t → t < length nodes → step a (parent t) (symbol t) ≡ t
-  unfolding step
-  leads t p l = ap (λ k. get_or next k 0) (place t) ∙ h.found_there t p l
-
-  -- an entry stands no earlier than the one by which its number was found
-  found_by : (t x : ℕ) → t < length nodes → x < g.symbols → 0 < step a t x → get_or found (step a t x) 0 ≤ t * g.symbols + x
-  unfolding step
-  found_by t x lt lx p = h.found_first t x lt lx p
+  symbol_below : (t : ℕ) → 0 < t → t < length states → symbol t < a.symbols
+  symbol_below t p l = mod-lt (get_or found t 0) (some_symbols a.symbols found (length states) h.found_earlier t p l)
 
   -- places in the order of their rows, and in a row of their symbols
-  rows_in_order : (p x q y : ℕ) → x < g.symbols → y < g.symbols → p * g.symbols + x ≤ q * g.symbols + y → (p < q) ⊎ ((p ≡ q) × (x ≤ y))
+  rows_in_order : (p x q y : ℕ) → x < a.symbols → y < a.symbols → p * a.symbols + x ≤ q * a.symbols + y → (p < q) ⊎ ((p ≡ q) × (x ≤ y))
   rows_in_order p x q y lx ly le = elim (cases_lt p q) [
     | inl lt ↦ inl lt
     | inr ge ↦ elim (cases_eq p q) [
-      | inl same ↦ let le2 : q * g.symbols + x ≤ q * g.symbols + y = rw same at le in inr (same, omega arith)
-      | inr ne ↦ let more : suc q * g.symbols ≤ p * g.symbols = mul-le-mul_right g.symbols (omega arith) in absurd (omega arith)
+      | inl same ↦ let le2 : q * a.symbols + x ≤ q * a.symbols + y = rw same at le in inr (same, omega arith)
+      | inr ne ↦ let more : suc q * a.symbols ≤ p * a.symbols = mul-le-mul_right a.symbols (omega arith) in absurd (omega arith)
     ]
   ]
 
   unfoldable pub to : ℕ → List ℕ
-  to t = path g.symbols found t t
+  to t = path a.symbols found t t
 
-  pub to-zero : to 0 ≡ []
+  to-zero : to 0 ≡ []
   unfolding to
   to-zero = refl
 
-  pub to-found : (t : ℕ) → 0 < t → t < length nodes → to t ≡ to (parent t) ++ symbol t ∷ []
+  to-found : (t : ℕ) → 0 < t → t < length states → to t ≡ to (parent t) ++ symbol t ∷ []
   unfolding to
-  to-found t p l = path-found g.symbols found (length nodes) h.found_earlier t p l
+  to-found t p l = path-found a.symbols found (length states) h.found_earlier t p l
 
-  to-over : (n t : ℕ) → t ≤ n → t < length nodes → IsTrace g.symbols (to t)
+  to-over : (n t : ℕ) → t ≤ n → t < length states → IsTrace a.symbols (to t)
   to-over n zero hn l = rw to-zero tt
   to-over zero (suc t) hn l = absurd (omega arith)
   to-over (suc n) (suc t) hn l =
       let b = earlier (suc t) (omega arith) l in
-      rw (to-found (suc t) (omega arith) l) (trace-push g.symbols (to (parent (suc t))) (symbol (suc t)) (to-over n (parent (suc t)) (omega arith) (omega arith)) (symbol_below (suc t) (omega arith) l))
+      rw (to-found (suc t) (omega arith) l) (trace-push a.symbols (to (parent (suc t))) (symbol (suc t)) (to-over n (parent (suc t)) (omega arith) (omega arith)) (symbol_below (suc t) (omega arith) l))
 
-  to-reached : (n t : ℕ) → t ≤ n → t < length nodes → run a 0 (to t) ≡ t
-  to-reached n zero hn l = rw to-zero refl
-  to-reached zero (suc t) hn l = absurd (omega arith)
-  to-reached (suc n) (suc t) hn l =
+  -- the path to a number leads to its state
+  to-state : (n t : ℕ) → t ≤ n → t < length states → run a a.start (to t) ≡ get_or states t 0
+  to-state n zero hn l = rw to-zero (sym h.first)
+  to-state zero (suc t) hn l = absurd (omega arith)
+  to-state (suc n) (suc t) hn l =
       let b = earlier (suc t) (omega arith) l in
       rw (to-found (suc t) (omega arith) l)
-      (run-append a 0 (to (parent (suc t))) (symbol (suc t) ∷ []) ∙ (ap (λ q. step a q (symbol (suc t))) (to-reached n (parent (suc t)) (omega arith) (omega arith)) ∙ leads (suc t) (omega arith) l))
+      (run-append a a.start (to (parent (suc t))) (symbol (suc t) ∷ [])
+      ∙ (ap (λ q. a.next q (symbol (suc t))) (to-state n (parent (suc t)) (omega arith) (omega arith)) ∙ h.found_there (suc t) (omega arith) l))
 
-  to-in_order : (n q r : ℕ) → r ≤ n → q < r → r < length nodes → IsBefore (to q) (to r)
+  to-in_order : (n q r : ℕ) → r ≤ n → q < r → r < length states → IsBefore (to q) (to r)
   to-in_order zero q r hn lt l = absurd (omega arith)
   to-in_order (suc n) zero r hn lt l = rw (to-zero, to-found r lt l) (before-nil (to (parent r)) (symbol r))
   to-in_order (suc n) (suc q) r hn lt l = go (rows_in_order (parent (suc q)) (symbol (suc q)) (parent r) (symbol r) (symbol_below (suc q) pq lq) (symbol_below r pr l) below) (to-in_order n (parent (suc q)) (parent r) (omega (arith, br)))
@@ -136,7 +129,7 @@ module _ (g : Graph) (nodes next found : List ℕ) (accepting : List Bool) (h : 
       pq : 0 < suc q
       pq = omega arith
 
-      lq : suc q < length nodes
+      lq : suc q < length states
       lq = omega arith
 
       pr : 0 < r
@@ -148,24 +141,24 @@ module _ (g : Graph) (nodes next found : List ℕ) (accepting : List Bool) (h : 
       before : get_or found (suc q) 0 < get_or found r 0
       before = h.found_in_order (suc q) r pq lt l
 
-      below : parent (suc q) * g.symbols + symbol (suc q) ≤ parent r * g.symbols + symbol r
+      below : parent (suc q) * a.symbols + symbol (suc q) ≤ parent r * a.symbols + symbol r
       below = omega (arith, before, place (suc q), place r)
 
-      go : (parent (suc q) < parent r) ⊎ ((parent (suc q) ≡ parent r) × (symbol (suc q) ≤ symbol r)) → (parent (suc q) < parent r → parent r < length nodes → IsBefore (to (parent (suc q))) (to (parent r))) → IsBefore (to (suc q)) (to r)
+      go : (parent (suc q) < parent r) ⊎ ((parent (suc q) ≡ parent r) × (symbol (suc q) ≤ symbol r)) → (parent (suc q) < parent r → parent r < length states → IsBefore (to (parent (suc q))) (to (parent r))) → IsBefore (to (suc q)) (to r)
       go (inl less) ih = rw (to-found (suc q) pq lq, to-found r pr l) (before-append (to (parent (suc q))) (to (parent r)) (symbol (suc q)) (symbol r) (ih less (omega (arith, br))))
       go (inr p) ih =
-          let less : parent (suc q) * g.symbols + symbol (suc q) < parent r * g.symbols + symbol r = omega (arith, before, place (suc q), place r) in
-          let less2 : parent r * g.symbols + symbol (suc q) < parent r * g.symbols + symbol r = rw p.0 at less in
+          let less : parent (suc q) * a.symbols + symbol (suc q) < parent r * a.symbols + symbol r = omega (arith, before, place (suc q), place r) in
+          let less2 : parent r * a.symbols + symbol (suc q) < parent r * a.symbols + symbol r = rw p.0 at less in
           let strict : symbol (suc q) < symbol r = omega arith in
           rw (to-found (suc q) pq lq, to-found r pr l, p.0) (before-last (to (parent r)) (symbol (suc q)) (symbol r) strict)
 
-  step_below : (q x : ℕ) → q < length nodes → x < g.symbols → step a q x < length nodes
-  unfolding step
-  step_below q x lq lx = h.entries q x lq lx
-
-  to-step_found : (t q x : ℕ) (u : List ℕ) → 0 < t → t < length nodes → q < length nodes → x < g.symbols → get_or found t 0 ≤ q * g.symbols + x → IsAtMost (to q) u → IsAtMost (to t) (u ++ x ∷ [])
-  to-step_found t q x u p l lq lx early le =
-      let below : parent t * g.symbols + symbol t ≤ q * g.symbols + x = omega (arith, early, place t) in
+  -- a number that was found by a step or at an earlier place
+  to-step : (t q x : ℕ) (u : List ℕ) → t < length states → q < length states → x < a.symbols → (0 < t → get_or found t 0 ≤ q * a.symbols + x) → IsAtMost (to q) u → IsAtMost (to t) (u ++ x ∷ [])
+  to-step zero q x u l lq lx early le = rw to-zero (inr (before-nil u x))
+  to-step (suc n) q x u l lq lx early le =
+      let t : ℕ = suc n in
+      let p : 0 < t = omega arith in
+      let below : parent t * a.symbols + symbol t ≤ q * a.symbols + x = omega (arith, early p, place t) in
       let rest : IsAtMost (to q ++ x ∷ []) (u ++ x ∷ []) = at_most-append (to q) u x le in
       rw (to-found t p l) (at_most_trans (to (parent t) ++ symbol t ∷ []) (to q ++ x ∷ []) (u ++ x ∷ [])
       (elim (rows_in_order (parent t) (symbol t) q x (symbol_below t p l) lx below) [
@@ -177,76 +170,119 @@ module _ (g : Graph) (nodes next found : List ℕ) (accepting : List Bool) (h : 
       ])
       rest)
 
-  to-step : (q x : ℕ) (u : List ℕ) → q < length nodes → x < g.symbols → IsAtMost (to q) u → IsAtMost (to (step a q x)) (u ++ x ∷ [])
-  to-step q x u lq lx le = elim (cases_eq (step a q x) 0) [
-    | inl z ↦ rw (z, to-zero) (inr (before-nil u x))
-    | inr ne ↦ to-step_found (step a q x) q x u (omega arith) (step_below q x lq lx) lq lx (found_by q x lq lx (omega arith)) le
+  met_or_behind : (t : ℕ) (u w : List ℕ) → t < length states → IsTrace a.symbols w → IsAtMost (to t) u
+      → IsMet a states found (get_or states t 0) u w ⊎ IsBehind a states found done (u ++ w)
+  unfolding to
+  met_or_behind t u [] l tw le = inl (record { number = t; bound = l; is = refl; least = rw (append-nil u) le })
+  met_or_behind t u (x ∷ w) l tw le = elim (cases_lt (t * a.symbols + x) done) [
+    | inl less ↦
+        let f = h.followed t x l tw.0 less in
+        elim (met_or_behind f.number (u ++ x ∷ []) w f.bound tw.1 (to-step f.number t x u f.bound l tw.0 f.by le)) [
+          | inl m ↦ inl (record { number = m.number; bound = m.bound; is = ap (λ q. run a q w) (sym f.is) ∙ m.is; least = rw (append_assoc u (x ∷ []) w) at m.least })
+          | inr b ↦ inr (record { more = b.more; after = λ s ls. rw (append_assoc u (x ∷ []) w) at (b.after s ls) })
+        ]
+    | inr all ↦ inr (record {
+      more = let b = mul-add-lt t a.symbols x (length states) l tw.0 in let c = mul_comm a.symbols (length states) in omega arith;
+      after = λ s ls.
+          let early : 0 < s → get_or found s 0 ≤ t * a.symbols + x = λ p. let b = h.found_before s p ls in omega arith in
+          rw (append_assoc u (x ∷ []) w) at (at_most-longer (to s) (u ++ x ∷ []) w (to-step s t x u ls l tw.0 early le));
+    })
   ]
 
-  to-least : (q : ℕ) (u w : List ℕ) → q < length nodes → IsTrace g.symbols w → IsAtMost (to q) u → IsAtMost (to (run a q w)) (u ++ w)
-  to-least q u [] lq tw le = rw (append-nil u) le
-  to-least q u (x ∷ w) lq tw le =
-      let ih = to-least (step a q x) (u ++ x ∷ []) w (step_below q x lq tw.0) tw.1 (to-step q x u lq tw.0 le) in
-      rw (append_assoc u (x ∷ []) w) at ih
+  from_start : (w : List ℕ) → IsTrace a.symbols w → IsMet a states found a.start [] w ⊎ IsBehind a states found done w
+  unfolding to
+  from_start w tw = rw h.first at (met_or_behind 0 [] w h.some tw (inl to-zero))
 
-  pub breadth_first-explored : IsBreadthFirst a
-  breadth_first-explored = record {
-    to = to;
-    over = λ q l. to-over q q (omega arith) (omega (arith, e, l));
-    reached = λ q l. to-reached q q (omega arith) (omega (arith, e, l));
-    least = λ w t. to-least 0 [] w h.some t (inl to-zero);
-    in_order = λ q r lt l. to-in_order r q r (omega arith) lt (omega (arith, e, l));
-  }
-
-  -- the node that a number stands for goes along with a walk
-  pub nodes-run : (t : ℕ) (w : List ℕ) → t < length nodes → IsTrace g.symbols w → get_or nodes (run a t w) 0 ≡ walk g (get_or nodes t 0) w
-  unfolding step
-  nodes-run t [] l tw = refl
-  nodes-run t (x ∷ w) l tw = nodes-run (step a t x) w (h.entries t x l tw.0) tw.1 ∙ ap (λ q. walk g q w) (h.edges t x l tw.0)
-
-  -- the node that a number stands for is where its path leads
-  to-node : (t : ℕ) → t < length nodes → walk g g.first (to t) ≡ get_or nodes t 0
-  to-node t l = ap (λ q. walk g q (to t)) (sym h.first) ∙ (sym (nodes-run 0 (to t) h.some (to-over t t (omega arith) l)) ∙ ap (λ q. get_or nodes q 0) (to-reached t t (omega arith) l))
-
-  walk-node : (w : List ℕ) → IsTrace g.symbols w → walk g g.first w ≡ get_or nodes (run a 0 w) 0
-  walk-node w tw = ap (λ q. walk g q w) (sym h.first) ∙ sym (nodes-run 0 w h.some tw)
-
-  -- the first number whose node is accepting
-  pub first-explored : (t : ℕ) → t < length nodes → g.accepting (get_or nodes t 0) ≡ true → ((k : ℕ) → k < t → g.accepting (get_or nodes k 0) ≡ false) → IsLeastMember g.symbols (Allows g) (to t)
-  first-explored t l ok before = record {
+  -- the first number whose state is accepting
+  pub first-found : (t : ℕ) → t < length states → a.accepting (get_or states t 0) ≡ true → ((k : ℕ) → k < t → a.accepting (get_or states k 0) ≡ false) → IsLeastMember a.symbols (Accepts a) (to t)
+  unfolding to
+  first-found t l ok before = record {
     over = to-over t t (omega arith) l;
-    member = ap g.accepting (to-node t l) ∙ ok;
-    none_before = λ w tw is before_it.
-        let lr : run a 0 w < length nodes = omega (arith, e, run-bound a whole-explored 0 w (omega (arith, e, h.some)) tw) in
-        let is2 : g.accepting (get_or nodes (run a 0 w) 0) ≡ true = ap g.accepting (sym (walk-node w tw)) ∙ is in
-        not_before (to t) w (at_most_trans (to t) (to (run a 0 w)) w
-        (elim (cases_lt t (run a 0 w)) [
-          | inl less ↦ inr (to-in_order (run a 0 w) t (run a 0 w) (omega arith) less lr)
-          | inr ge ↦ elim (cases_eq t (run a 0 w)) [
-            | inl same ↦ inl (ap to same)
-            | inr ne ↦ let no = before (run a 0 w) (omega arith) in absurd (cc (no, is2))
-          ]
-        ])
-        (to-least 0 [] w h.some tw (inl to-zero)))
-        before_it;
+    member = ap a.accepting (to-state t t (omega arith) l) ∙ ok;
+    none_before = λ w tw is before_it. elim (from_start w tw) [
+      | inl m ↦
+          let is2 : a.accepting (get_or states m.number 0) ≡ true = ap a.accepting (sym m.is) ∙ is in
+          not_before (to t) w (at_most_trans (to t) (to m.number) w
+          (elim (cases_lt t m.number) [
+            | inl less ↦ inr (to-in_order m.number t m.number (omega arith) less m.bound)
+            | inr ge ↦ elim (cases_eq t m.number) [
+              | inl same ↦ inl (ap to same)
+              | inr ne ↦ let no = before m.number (omega arith) in absurd (cc (no, is2))
+            ]
+          ])
+          m.least)
+          before_it
+      | inr b ↦ not_before (to t) w (b.after t l) before_it
+    ];
   }
 
-  pub none-explored : ((k : ℕ) → k < length nodes → g.accepting (get_or nodes k 0) ≡ false) → HasNoMember g.symbols (Allows g)
-  none-explored none w tw is =
-      let lr : run a 0 w < length nodes = omega (arith, e, run-bound a whole-explored 0 w (omega (arith, e, h.some)) tw) in
-      let no : allows g w ≡ false = ap g.accepting (walk-node w tw) ∙ none (run a 0 w) lr in
-      absurd (cc (no, is))
+  pub none-found : done ≡ length states * a.symbols → ((k : ℕ) → k < length states → a.accepting (get_or states k 0) ≡ false) → HasNoMember a.symbols (Accepts a)
+  none-found all none w tw is = elim (from_start w tw) [
+    | inl m ↦ let no : accepts a w ≡ false = ap a.accepting m.is ∙ none m.number m.bound in absurd (cc (no, is))
+    | inr b ↦ let more = b.more in absurd (omega arith)
+  ]
 
-  run-in : (w : List ℕ) → IsTrace g.symbols w → run a 0 w < length nodes
-  run-in w tw = omega (arith, e, run-bound a whole-explored 0 w (omega (arith, e, h.some)) tw)
+-- a loop that has asked of each state whether it is accepting
+pub all-taken : (a : Steps) (states items : List ℕ) (accepting : List Bool) (k : ℕ) → accepting ≡ map a.accepting (take k items) → length items ≤ k → items ≡ states → accepting ≡ map a.accepting states
+all-taken a states items accepting k e le same = e ∙ ap (map a.accepting) (take_all k items le ∙ same)
 
-  pub reachable-explored : accepting ≡ map g.accepting nodes → IsReachable g a
+-- the table of a search that is over
+module _ (a : Steps) (states next : List ℕ) (accepting : List Bool) (h : IsExplored a states next) (e : length accepting ≡ length states) where
+  abbrev r : Automaton
+  r = automaton a.symbols 0 next accepting
+
+  abbrev least_to : ℕ → List ℕ
+  least_to = to a states h.found (length states * a.symbols) h.search
+
+  in_table : (t x : ℕ) → t < length states → x < a.symbols → t * a.symbols + x < length next
+  in_table t x lt lx = let b = mul-add-lt t a.symbols x (length states) lt lx in let c = mul_comm a.symbols (length states) in omega (arith, h.table_length)
+
+  pub whole-explored : IsWhole r
+  unfolding step
+  whole-explored = record {
+    start_bound = omega (arith, h.search.some, e);
+    few_states = omega (arith, h.few, h.fits, e);
+    table_length = h.table_length ∙ ap (λ (n : ℕ). n * a.symbols) (sym e);
+    step_bound = λ q x lq lx. let b = h.entries.bound q x lx (in_table q x (omega (arith, e, lq)) lx) in omega (arith, e, b);
+  }
+
+  -- the state that a number stands for goes along with a run
+  states-run : (t : ℕ) (w : List ℕ) → t < length states → IsTrace a.symbols w → get_or states (run (steps_of r) t w) 0 ≡ run a (get_or states t 0) w
+  unfolding step
+  states-run t [] l tw = refl
+  states-run t (x ∷ w) l tw =
+      states-run (step r t x) w (h.entries.bound t x tw.0 (in_table t x l tw.0)) tw.1 ∙ ap (λ q. run a q w) (h.entries.are t x tw.0 (in_table t x l tw.0))
+
+  state-run : (w : List ℕ) → IsTrace a.symbols w → get_or states (run (steps_of r) 0 w) 0 ≡ run a a.start w
+  state-run w tw = states-run 0 w h.search.some tw ∙ ap (λ q. run a q w) h.search.first
+
+  run-in : (w : List ℕ) → IsTrace a.symbols w → run (steps_of r) 0 w < length states
+  run-in w tw = omega (arith, e, run-bound r whole-explored 0 w (omega (arith, e, h.search.some)) tw)
+
+  breadth_first-explored : IsBreadthFirst r
+  unfolding to
+  breadth_first-explored = record {
+    to = least_to;
+    over = λ q l. to-over a states h.found (length states * a.symbols) h.search q q (omega arith) (omega (arith, e, l));
+    reached = λ q l.
+        let lq : q < length states = omega (arith, e, l) in
+        let tw = to-over a states h.found (length states * a.symbols) h.search q q (omega arith) lq in
+        h.search.distinct (run (steps_of r) 0 (least_to q)) q (run-in (least_to q) tw) lq
+        (state-run (least_to q) tw ∙ to-state a states h.found (length states * a.symbols) h.search q q (omega arith) lq);
+    least = λ w tw. elim (from_start a states h.found (length states * a.symbols) h.search w tw) [
+      | inl m ↦
+          let same : run (steps_of r) 0 w ≡ m.number = h.search.distinct (run (steps_of r) 0 w) m.number (run-in w tw) m.bound (state-run w tw ∙ m.is) in
+          rw same m.least
+      | inr b ↦ absurd (omega (arith, b.more))
+    ];
+    in_order = λ q s lt l. to-in_order a states h.found (length states * a.symbols) h.search s q s (omega arith) lt (omega (arith, e, l));
+  }
+
+  pub reachable-explored : accepting ≡ map a.accepting states → IsReachable a r
   reachable-explored ac = record {
     over = refl;
-    same = λ w tw.
-        let lr : run a 0 w < length nodes = omega (arith, e, run-bound a whole-explored 0 w (omega (arith, e, h.some)) tw) in
-        ap (λ (l : List Bool). get_or l (run a 0 w) false) ac ∙ (get_or-map g.accepting nodes (run a 0 w) 0 false lr ∙ ap g.accepting (sym (walk-node w tw)));
-    one_for_node = λ u w tu tw same. h.distinct (run a 0 u) (run a 0 w) (run-in u tu) (run-in w tw) (sym (walk-node u tu) ∙ (same ∙ walk-node w tw));
+    same = λ w tw. ap (λ (l : List Bool). get_or l (run (steps_of r) 0 w) false) ac ∙ (get_or-map a.accepting states (run (steps_of r) 0 w) 0 false (run-in w tw) ∙ ap a.accepting (state-run w tw));
+    one_for_state = λ u w tu tw same. h.search.distinct (run (steps_of r) 0 u) (run (steps_of r) 0 w) (run-in u tu) (run-in w tw) (state-run u tu ∙ (same ∙ sym (state-run w tw)));
     few = omega (arith, h.few, e);
     whole = whole-explored;
     in_order = breadth_first-explored;

@@ -5,11 +5,12 @@ use Rattle.std.proofs.lemmas.List.{length-replicate}
 use Rattle.std.proofs.lemmas.Nat.{mul-add-lt}
 use Rattle.std.proofs.Math.Nat.{mul_comm}
 use Rattle.dfa_core.specs.Automaton.{Automaton, automaton, IsWhole, IsEverything, state_count, step, run, accepts, is_accepting}
+use Rattle.dfa_core.specs.Steps.{Steps, run as run_of}
 use Rattle.dfa_core.specs.Traces.{IsTrace}
 
-pub run-append : (a : Automaton) (q : ℕ) (u w : List ℕ) → run a q (u ++ w) ≡ run a (run a q u) w
-run-append a q [] w = refl
-run-append a q (x ∷ u) w = run-append a (step a q x) u w
+pub run-append : (s : Steps) (q : ℕ) (u w : List ℕ) → run_of s q (u ++ w) ≡ run_of s (run_of s q u) w
+run-append s q [] w = refl
+run-append s q (x ∷ u) w = run-append s (s.next q x) u w
 
 pub run-bound : (a : Automaton) → IsWhole a → (q : ℕ) (w : List ℕ) → q < state_count a → IsTrace a.symbols w → run a q w < state_count a
 run-bound a h q [] lt t = lt

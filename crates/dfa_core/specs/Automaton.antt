@@ -1,6 +1,7 @@
--- Complete automata, and the traces that they accept.
-use Rattle.std.specs.Prelude.{◌≡◌, ℕ, ◌*◌, ◌+◌, ◌<◌, ◌^◌, List, [], ◌∷◌, length, Bool, true, false, slice_index_or as get_or}
+-- Automata as tables. All but their table is said of their steps.
+use Rattle.std.specs.Prelude.{◌≡◌, ℕ, ◌*◌, ◌+◌, ◌<◌, ◌≤◌, ◌^◌, List, length, Bool, true, false, slice_index_or as get_or}
 use Rattle.dfa_core.specs.Shortlex.{IsBefore, IsAtMost}
+use Rattle.dfa_core.specs.Steps.{Steps, run as run_of, accepts as accepts_of}
 use Rattle.dfa_core.specs.Traces.{IsTrace}
 
 -- a table of states, row after row, with one entry for each symbol
@@ -26,14 +27,14 @@ step a q x = get_or a.next (q * a.symbols + x) 0
 abbrev pub is_accepting : Automaton → ℕ → Bool
 is_accepting a q = get_or a.accepting q false
 
--- the state after a trace
-abbrev pub run : Automaton → ℕ → List ℕ → ℕ
-run a q [] = q
-run a q (x ∷ w) = run a (step a q x) w
+abbrev pub steps_of : Automaton → Steps
+steps_of a = record { symbols = a.symbols; states = state_count a; start = a.start; next = step a; accepting = is_accepting a }
 
--- whether the run from the start ends at an accepting state
+abbrev pub run : Automaton → ℕ → List ℕ → ℕ
+run a = run_of (steps_of a)
+
 abbrev pub accepts : Automaton → List ℕ → Bool
-accepts a w = is_accepting a (run a a.start w)
+accepts a = accepts_of (steps_of a)
 
 -- the language of an automaton
 abbrev pub Accepts : Automaton → List ℕ → Type 0
@@ -64,3 +65,12 @@ pub record IsBreadthFirst (a : Automaton) : Type 0 where
   pub reached : (q : ℕ) → q < state_count a → run a a.start (to q) ≡ q
   pub least : (w : List ℕ) → IsTrace a.symbols w → IsAtMost (to (run a a.start w)) w
   pub in_order : (q r : ℕ) → q < r → r < state_count a → IsBefore (to q) (to r)
+
+-- It accepts the same traces. It has at most as many states, and one for each of theirs that is reached. Each is reached, and they are in order.
+pub record IsReachable (s : Steps) (a : Automaton) : Type 0 where
+  pub over : a.symbols ≡ s.symbols
+  pub same : (w : List ℕ) → IsTrace s.symbols w → accepts a w ≡ accepts_of s w
+  pub one_for_state : (u w : List ℕ) → IsTrace s.symbols u → IsTrace s.symbols w → run_of s s.start u ≡ run_of s s.start w → run a a.start u ≡ run a a.start w
+  pub few : state_count a ≤ s.states
+  pub whole : IsWhole a
+  pub in_order : IsBreadthFirst a

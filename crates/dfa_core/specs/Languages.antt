@@ -1,5 +1,5 @@
 -- Languages: sets of traces over the symbols below a number n, each told by what its members are.
-use Rattle.std.specs.Prelude.{ℕ, List}
+use Rattle.std.specs.Prelude.{ℕ, List, Option, MatchOption}
 use Rattle.dfa_core.specs.Shortlex.{IsBefore}
 use Rattle.dfa_core.specs.Traces.{IsTrace}
 
@@ -12,3 +12,7 @@ pub record IsLeastMember (n : ℕ) (Member : List ℕ → Type 0) (t : List ℕ)
   pub over : IsTrace n t
   pub member : Member t
   pub none_before : (w : List ℕ) → IsTrace n w → Member w → IsBefore w t → ⊥
+
+-- the least member, and None where there is none
+abbrev pub IsLeastIfAny : ℕ → (List ℕ → Type 0) → Option (List ℕ) → Type 0
+IsLeastIfAny n Member found = MatchOption found (HasNoMember n Member) (IsLeastMember n Member)

@@ -1,8 +1,8 @@
 -- What the classes' automaton accepts, and that its states are told apart.
 use Rattle.std.proofs.Common.{◌≡◌, ℕ, ◌<◌, List, [], ◌∷◌, ◌++◌, get_or, refl, sym, ap, ◌∙◌, subst}
 use Rattle.dfa_core.specs.Traces.{IsTrace}
-use Rattle.dfa_core.specs.Automaton.{Automaton, IsWhole, SameLanguage, accepts, is_accepting, run, state_count, step}
-use Rattle.dfa_core.specs.Graph.{Graph, walk, allows, IsReachable}
+use Rattle.dfa_core.specs.Automaton.{Automaton, IsReachable, IsWhole, SameLanguage, is_accepting, state_count, step, steps_of}
+use Rattle.dfa_core.specs.Steps.{Steps, accepts, run}
 use Rattle.dfa_core.proofs.Runs.{run-append, run-bound}
 use Rattle.dfa_minimise.specs.Classes.{IsEquivalence}
 use Rattle.dfa_minimise.specs.Least.{IsLeast, quotient}
@@ -12,16 +12,16 @@ trace-append n [] w tu tw = tw
 trace-append n (x ∷ u) w tu tw = (tu.0, trace-append n u w tu.1 tw)
 
 module _ (a : Automaton) (class members : List ℕ) (whole : IsWhole a) (h : IsEquivalence a class members) where
-  abbrev g : Graph
+  abbrev g : Steps
   g = quotient a class members
 
   -- the class goes along with the run
-  pub walk-class : (q : ℕ) (w : List ℕ) → q < state_count a → IsTrace a.symbols w → walk g (get_or class q 0) w ≡ get_or class (run a q w) 0
-  walk-class q [] lq tw = refl
-  walk-class q (x ∷ w) lq tw =
+  pub run-class : (q : ℕ) (w : List ℕ) → q < state_count a → IsTrace a.symbols w → run g (get_or class q 0) w ≡ get_or class (run (steps_of a) q w) 0
+  run-class q [] lq tw = refl
+  run-class q (x ∷ w) lq tw =
       let p = h.partition in
       let lc = p.class_bound q lq in
-      ap (λ c. walk g c w) (h.stable (get_or members (get_or class q 0) 0) q x (p.member_bound (get_or class q 0) lc) lq tw.0 (p.member_class (get_or class q 0) lc)) ∙ walk-class (step a q x) w (whole.step_bound q x lq tw.0) tw.1
+      ap (λ c. run g c w) (h.stable (get_or members (get_or class q 0) 0) q x (p.member_bound (get_or class q 0) lc) lq tw.0 (p.member_class (get_or class q 0) lc)) ∙ run-class (step a q x) w (whole.step_bound q x lq tw.0) tw.1
 
   member-accepts : (q : ℕ) → q < state_count a → is_accepting a (get_or members (get_or class q 0) 0) ≡ is_accepting a q
   member-accepts q lq =
@@ -29,15 +29,15 @@ module _ (a : Automaton) (class members : List ℕ) (whole : IsWhole a) (h : IsE
       let lc = p.class_bound q lq in
       h.sound.alike (get_or members (get_or class q 0) 0) q (p.member_bound (get_or class q 0) lc) lq (p.member_class (get_or class q 0) lc)
 
-  pub allows-quotient : (w : List ℕ) → IsTrace a.symbols w → allows g w ≡ accepts a w
-  allows-quotient w tw =
-      ap (λ c. is_accepting a (get_or members c 0)) (walk-class a.start w whole.start_bound tw)
-      ∙ member-accepts (run a a.start w) (run-bound a whole a.start w whole.start_bound tw)
+  pub accepts-quotient : (w : List ℕ) → IsTrace a.symbols w → accepts g w ≡ accepts (steps_of a) w
+  accepts-quotient w tw =
+      ap (λ c. is_accepting a (get_or members c 0)) (run-class a.start w whole.start_bound tw)
+      ∙ member-accepts (run (steps_of a) a.start w) (run-bound a whole a.start w whole.start_bound tw)
 
   pub language-quotient : (r : Automaton) → IsReachable g r → SameLanguage r a
   language-quotient r is = record {
     over = is.over;
-    same = λ w tw. let t : IsTrace a.symbols w = rw is.over at tw in is.same w t ∙ allows-quotient w t;
+    same = λ w tw. let t : IsTrace a.symbols w = rw is.over at tw in is.same w t ∙ accepts-quotient w t;
   }
 
   pub least-quotient : (r : Automaton) → IsReachable g r → IsLeast r
@@ -51,16 +51,16 @@ module _ (a : Automaton) (class members : List ℕ) (whole : IsWhole a) (h : IsE
         let tv : IsTrace a.symbols v = rw is.over at (b.over q lq) in
         let lu = run-bound a whole a.start u whole.start_bound tu in
         let lv = run-bound a whole a.start v whole.start_bound tv in
-        let differ : get_or class (run a a.start u) 0 ≡ get_or class (run a a.start v) 0 → ⊥ = λ e.
-        let nodes : walk g g.first u ≡ walk g g.first v = walk-class a.start u whole.start_bound tu ∙ (e ∙ sym (walk-class a.start v whole.start_bound tv)) in
-        ne (sym (b.reached p lp) ∙ (is.one_for_node u v tu tv nodes ∙ b.reached q lq)) in
-        let d = h.sound.apart (run a a.start u) (run a a.start v) lu lv differ in
-        let from : (s : ℕ) (t : List ℕ) → run r r.start t ≡ s → IsTrace a.symbols t → is_accepting r (run r s d.by) ≡ is_accepting a (run a (run a a.start t) d.by) = λ s t e tt_.
-        ap (λ z. is_accepting r (run r z d.by)) (sym e)
-        ∙ (ap (is_accepting r) (sym (run-append r r.start t d.by))
+        let differ : get_or class (run (steps_of a) a.start u) 0 ≡ get_or class (run (steps_of a) a.start v) 0 → ⊥ = λ e.
+        let led : run g g.start u ≡ run g g.start v = run-class a.start u whole.start_bound tu ∙ (e ∙ sym (run-class a.start v whole.start_bound tv)) in
+        ne (sym (b.reached p lp) ∙ (is.one_for_state u v tu tv led ∙ b.reached q lq)) in
+        let d = h.sound.apart (run (steps_of a) a.start u) (run (steps_of a) a.start v) lu lv differ in
+        let from : (s : ℕ) (t : List ℕ) → run (steps_of r) r.start t ≡ s → IsTrace a.symbols t → is_accepting r (run (steps_of r) s d.by) ≡ is_accepting a (run (steps_of a) (run (steps_of a) a.start t) d.by) = λ s t e tt_.
+        ap (λ z. is_accepting r (run (steps_of r) z d.by)) (sym e)
+        ∙ (ap (is_accepting r) (sym (run-append (steps_of r) r.start t d.by))
         ∙ (is.same (t ++ d.by) (trace-append a.symbols t d.by tt_ d.over)
-        ∙ (allows-quotient (t ++ d.by) (trace-append a.symbols t d.by tt_ d.over)
-        ∙ ap (is_accepting a) (run-append a a.start t d.by)))) in
+        ∙ (accepts-quotient (t ++ d.by) (trace-append a.symbols t d.by tt_ d.over)
+        ∙ ap (is_accepting a) (run-append (steps_of a) a.start t d.by)))) in
         record {
           by = d.by;
           over = let P : ℕ → Type 0 = λ n. IsTrace n d.by in subst P (sym is.over) d.over;

@@ -1,7 +1,7 @@
 -- How many states a least automaton has, and how many traces its language tells apart.
-use Rattle.std.proofs.Common.{◌≡◌, ◌≢◌, ℕ, suc, ◌<◌, inl, inr, List, [], ◌∷◌, ◌++◌, Bool, true, false, IsTrue, ◌↔◌, refl, sym, ap, ◌∙◌, arith}
+use Rattle.std.proofs.Common.{◌≡◌, ◌≢◌, ℕ, suc, ◌<◌, ◌≤◌, inl, inr, List, [], ◌∷◌, ◌++◌, Bool, true, false, IsTrue, ◌↔◌, refl, sym, ap, ◌∙◌, arith}
 use Rattle.std.proofs.lemmas.Bool.{cases_eq, cases_lt}
-use Rattle.dfa_core.specs.Automaton.{Automaton, IsWhole, IsBreadthFirst, Accepts, accepts, is_accepting, run, state_count}
+use Rattle.dfa_core.specs.Automaton.{Automaton, IsWhole, IsBreadthFirst, Accepts, accepts, is_accepting, run, state_count, steps_of}
 use Rattle.dfa_core.specs.Traces.{IsTrace}
 use Rattle.dfa_core.proofs.Pigeons.{TakesNoneTwice, le_from_injection}
 use Rattle.dfa_core.proofs.Runs.{run-append, run-bound}
@@ -11,7 +11,7 @@ use Rattle.dfa_minimise.specs.Wide.{TellsApart, IsWide}
 -- traces that are told apart lead to different states
 states_differ : (a : Automaton) (u v : List ℕ) → TellsApart a.symbols (Accepts a) u v → run a a.start u ≢ run a a.start v
 states_differ a u v t same =
-    let e : accepts a (u ++ t.by) ≡ accepts a (v ++ t.by) = ap (is_accepting a) (run-append a a.start u t.by ∙ (ap (λ q. run a q t.by) same ∙ sym (run-append a a.start v t.by))) in
+    let e : accepts a (u ++ t.by) ≡ accepts a (v ++ t.by) = ap (is_accepting a) (run-append (steps_of a) a.start u t.by ∙ (ap (λ q. run a q t.by) same ∙ sym (run-append (steps_of a) a.start v t.by))) in
     t.differs (λ is. sym e ∙ is, λ is. e ∙ is)
 
 -- a language that is wide for s wants more states than s
@@ -27,6 +27,10 @@ states-from_wide a s whole wide =
     ] in
     let le = le_from_injection f (suc s) (state_count a) (λ i li. run-bound a whole a.start (wide.trace i) whole.start_bound (wide.over i (omega arith))) once in
     omega (arith, le)
+
+-- no language is wide for as many states as some automaton of it has
+pub narrow-few_states : (a : Automaton) (s : ℕ) → IsWhole a → state_count a ≤ s → IsWide a.symbols (Accepts a) s → ⊥
+narrow-few_states a s whole few wide = let lt = states-from_wide a s whole wide in omega (arith, few, lt)
 
 both_or_none : (x y : Bool) → IsTrue x ↔ IsTrue y → x ≡ y
 both_or_none true y same = sym (same.0 refl)
@@ -46,8 +50,8 @@ wide-from_states a s least order lt = record {
         by = t.by;
         over = t.over;
         differs = λ same. t.differs (
-            ap (is_accepting a) (ap (λ q. run a q t.by) (sym (order.reached i li)) ∙ sym (run-append a a.start (order.to i) t.by))
-            ∙ (both_or_none (accepts a (order.to i ++ t.by)) (accepts a (order.to j ++ t.by)) same ∙ ap (is_accepting a) (run-append a a.start (order.to j) t.by ∙ ap (λ q. run a q t.by) (order.reached j lj)))
+            ap (is_accepting a) (ap (λ q. run a q t.by) (sym (order.reached i li)) ∙ sym (run-append (steps_of a) a.start (order.to i) t.by))
+            ∙ (both_or_none (accepts a (order.to i ++ t.by)) (accepts a (order.to j ++ t.by)) same ∙ ap (is_accepting a) (run-append (steps_of a) a.start (order.to j) t.by ∙ ap (λ q. run a q t.by) (order.reached j lj)))
             );
       };
 }
@@ -71,3 +75,7 @@ wide-same n s P Q same wide = record {
         differs = λ e. t.differs (λ p. v.1 (e.0 (u.0 p)), λ p. u.1 (e.1 (v.0 p)));
       };
 }
+
+-- the members of a language that a small automaton accepts
+pub narrow-members : (a : Automaton) (s : ℕ) (P : List ℕ → Type 0) → IsWhole a → ((w : List ℕ) → IsTrace a.symbols w → P w ↔ Accepts a w) → state_count a ≤ s → IsWide a.symbols P s → ⊥
+narrow-members a s P whole same few wide = narrow-few_states a s whole few (wide-same a.symbols s P (Accepts a) same wide)

@@ -38,26 +38,26 @@ impl System for Quotient<'_> {
     ghost use Rattle.dfa_minimise.specs.Least.{quotient};
     ghost use Rattle.dfa_minimise.specs.Partitions.{members_of};
 
-    ghost graph = { λ q. quotient q.dfa.now q.partition.now.class.items (members_of q.partition.now) };
+    ghost steps = { λ q. quotient q.dfa.now q.partition.now.class.items (members_of q.partition.now) };
 
     fn symbols(&self) -> u32 {
         self.dfa.symbols()
     }
 
-    fn nodes(&self) -> u32 {
+    fn states(&self) -> u32 {
         self.partition.count()
     }
 
-    fn first(&self) -> u32 {
+    fn start(&self) -> u32 {
         self.partition.class_of(self.dfa.start())
     }
 
-    fn next(&self, node: u32, symbol: u32) -> u32 {
-        let member = self.partition.member_of(node);
+    fn step(&self, state: u32, symbol: u32) -> u32 {
+        let member = self.partition.member_of(state);
         self.partition.class_of(self.dfa.step(member, symbol))
     }
 
-    fn accepting(&self, node: u32) -> bool {
-        self.dfa.accepting(self.partition.member_of(node))
+    fn accepting(&self, state: u32) -> bool {
+        self.dfa.accepting(self.partition.member_of(state))
     }
 }

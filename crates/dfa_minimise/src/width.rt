@@ -1,5 +1,5 @@
-ghost use Rattle.std.specs.Prelude.{◌↔◌, IsTrue};
-ghost use Rattle.dfa_core.specs.Automaton.{Accepts, IsBreadthFirst};
+ghost use Rattle.std.specs.Prelude.{◌≤◌, ◌↔◌, ℕ, IsTrue};
+ghost use Rattle.dfa_core.specs.Automaton.{Automaton, Accepts, IsBreadthFirst, IsWhole, state_count};
 ghost use Rattle.dfa_minimise.specs.Least.{IsLeast};
 ghost use Rattle.dfa_minimise.specs.Wide.{IsWide};
 
@@ -13,3 +13,8 @@ pub fn is_wide(least: &Dfa, limit: u64) -> bool
 {
     limit < least.states() as u64
 }
+
+/// A language whose automaton has at most as many states as the limit isn't wide, whether or not that automaton is least.
+pub fn few_states_are_narrow()
+    ensures { (a : Automaton) (limit : ℕ) → IsWhole a → state_count a ≤ limit → IsWide a.symbols (Accepts a) limit → ⊥ }
+{}

@@ -1,36 +1,65 @@
--- A walk over pairs is two runs side by side.
-use Rattle.std.proofs.Common.{◌≡◌, ℕ, ◌+◌, ◌*◌, ◌<◌, List, [], ◌∷◌, Option, Some, None, MatchOption, Bool, true, false, not, ◌&&◌, cond, refl, sym, ap, ◌∙◌}
+-- A run over pairs is two runs side by side.
+use Rattle.std.proofs.Common.{◌≡◌, ℕ, ◌+◌, ◌*◌, ◌<◌, List, [], ◌∷◌, Option, Some, None, Bool, true, false, not, ◌&&◌, cond, refl, sym, ap, ◌∙◌}
 use Rattle.std.proofs.lemmas.Nat.{div-mul-add, mod-mul-add}
-use Rattle.dfa_core.specs.Automaton.{Automaton, accepts, is_accepting, run, step}
-use Rattle.dfa_core.specs.Graph.{Allows, walk, allows, IsReachable, graph_of}
-use Rattle.dfa_core.specs.Languages.{HasNoMember, IsLeastMember}
+use Rattle.dfa_core.specs.Automaton.{Automaton, IsReachable, IsWhole, steps_of}
+use Rattle.dfa_core.specs.Languages.{IsLeastIfAny}
+use Rattle.dfa_core.specs.Steps.{Steps, Accepts, accepts, run}
+use Rattle.dfa_core.specs.Traces.{IsTrace}
 use Rattle.template_core.specs.Tables.{IsTable, class, keeps_by, table_run, step as table_step}
 use Rattle.template_core.specs.declared.constraint.Constraint.{Constraint}
 use Rattle.template_core.specs.declared.table.Table.{Table}
-use Rattle.dfa_product.specs.Pairs.{pairs, IsMeet}
+use Rattle.dfa_product.specs.Pairs.{pairs, table_steps, IsIntersection, IsMeet}
 use Rattle.dfa_product.specs.Wanted.{IsWanted}
-use Rattle.dfa_product.specs.declared.wanted.Want.TheVariants.{Accepted, Beside}
+use Rattle.dfa_product.specs.declared.wanted.Want.TheVariants.{Beside}
 
-walk-pairs : (a : Automaton) (t : Table) (c : Constraint) (keeps : Bool) → IsTable t → (q p : ℕ) (w : List ℕ) → p < t.states
-    → walk (pairs a t c keeps) (q * t.states + p) w ≡ run a q w * t.states + table_run t c p w
-walk-pairs a t c keeps h q p [] lt = refl
-walk-pairs a t c keeps h q p (x ∷ w) lt =
-    rw (div-mul-add q t.states p lt, mod-mul-add q t.states p lt) (walk-pairs a t c keeps h (step a q x) (table_step t p (class c x)) w (h.step_bound p (class c x) lt))
+-- the start is a state, and each step leads to a state
+record IsClosed (s : Steps) : Type 0 where
+  start_bound : s.start < s.states
+  next_bound : (q x : ℕ) → q < s.states → x < s.symbols → s.next q x < s.states
 
-table-run-below : (t : Table) (c : Constraint) → IsTable t → (p : ℕ) (w : List ℕ) → p < t.states → table_run t c p w < t.states
-table-run-below t c h p [] lt = lt
-table-run-below t c h p (x ∷ w) lt = table-run-below t c h (table_step t p (class c x)) w (h.step_bound p (class c x) lt)
+module _ (s t : Steps) (h : IsClosed t) where
+  run-pairs : (q p : ℕ) (w : List ℕ) → p < t.states → IsTrace t.symbols w → run (pairs s t) (q * t.states + p) w ≡ run s q w * t.states + run t p w
+  run-pairs q p [] lt tw = refl
+  run-pairs q p (x ∷ w) lt tw = rw (div-mul-add q t.states p lt, mod-mul-add q t.states p lt) (run-pairs (s.next q x) (t.next p x) w (h.next_bound p x lt tw.0) tw.1)
 
-pub allows-pairs : (a : Automaton) (t : Table) (c : Constraint) (keeps : Bool) → IsTable t → (w : List ℕ)
-    → allows (pairs a t c keeps) w ≡ (accepts a w && cond keeps (keeps_by t c w) (not (keeps_by t c w)))
-allows-pairs a t c keeps h w =
-    let lt = table-run-below t c h t.start w h.start_bound in
-    rw (walk-pairs a t c keeps h a.start t.start w h.start_bound, div-mul-add (run a a.start w) t.states (table_run t c t.start w) lt, mod-mul-add (run a a.start w) t.states (table_run t c t.start w) lt) refl
+  run-below : (p : ℕ) (w : List ℕ) → p < t.states → IsTrace t.symbols w → run t p w < t.states
+  run-below p [] lt tw = lt
+  run-below p (x ∷ w) lt tw = run-below (t.next p x) w (h.next_bound p x lt tw.0) tw.1
 
-pub meet-reachable : (a : Automaton) (t : Table) (c : Constraint) (r : Automaton) → IsTable t → IsReachable (pairs a t c true) r → IsMeet a t c r
+  accepts-pairs : (w : List ℕ) → IsTrace t.symbols w → accepts (pairs s t) w ≡ (accepts s w && accepts t w)
+  accepts-pairs w tw =
+      let lt = run-below t.start w h.start_bound tw in
+      rw (run-pairs s.start t.start w h.start_bound tw, div-mul-add (run s s.start w) t.states (run t t.start w) lt, mod-mul-add (run s s.start w) t.states (run t t.start w) lt) refl
+
+closed-whole : (a : Automaton) → IsWhole a → IsClosed (steps_of a)
+closed-whole a h = record { start_bound = h.start_bound; next_bound = h.step_bound }
+
+closed-table : (n : ℕ) (t : Table) (c : Constraint) (keeps : Bool) → IsTable t → IsClosed (table_steps n t c keeps)
+closed-table n t c keeps h = record { start_bound = h.start_bound; next_bound = λ q x lq lx. h.step_bound q (class c x) lq }
+
+run-table : (n : ℕ) (t : Table) (c : Constraint) (keeps : Bool) (p : ℕ) (w : List ℕ) → run (table_steps n t c keeps) p w ≡ table_run t c p w
+run-table n t c keeps p [] = refl
+run-table n t c keeps p (x ∷ w) = run-table n t c keeps (table_step t p (class c x)) w
+
+accepts-table : (n : ℕ) (t : Table) (c : Constraint) (keeps : Bool) (w : List ℕ) → accepts (table_steps n t c keeps) w ≡ cond keeps (keeps_by t c w) (not (keeps_by t c w))
+accepts-table n t c keeps w = ap (table_steps n t c keeps).accepting (run-table n t c keeps t.start w)
+
+accepts-pairs_table : (a : Automaton) (t : Table) (c : Constraint) (keeps : Bool) → IsTable t → (w : List ℕ) → IsTrace a.symbols w
+    → accepts (pairs (steps_of a) (table_steps a.symbols t c keeps)) w ≡ (accepts (steps_of a) w && cond keeps (keeps_by t c w) (not (keeps_by t c w)))
+accepts-pairs_table a t c keeps h w tw =
+    accepts-pairs (steps_of a) (table_steps a.symbols t c keeps) (closed-table a.symbols t c keeps h) w tw ∙ ap (λ (b : Bool). accepts (steps_of a) w && b) (accepts-table a.symbols t c keeps w)
+
+pub meet-reachable : (a : Automaton) (t : Table) (c : Constraint) (r : Automaton) → IsTable t → IsReachable (pairs (steps_of a) (table_steps a.symbols t c true)) r → IsMeet a t c r
 meet-reachable a t c r h is = record {
   over = is.over;
-  both = λ w tw. is.same w tw ∙ allows-pairs a t c true h w;
+  both = λ w tw. is.same w tw ∙ accepts-pairs_table a t c true h w tw;
+  few_states = is.few;
+}
+
+pub intersection-reachable : (a b r : Automaton) → IsWhole b → b.symbols ≡ a.symbols → IsReachable (pairs (steps_of a) (steps_of b)) r → IsIntersection a b r
+intersection-reachable a b r h same is = record {
+  over = is.over;
+  both = λ w tw. let t : IsTrace b.symbols w = rw same tw in is.same w tw ∙ accepts-pairs (steps_of a) (steps_of b) (closed-whole b h) w t;
   few_states = is.few;
 }
 
@@ -39,38 +68,18 @@ and_true true true e = absurd (cc e)
 and_true true false e = (refl, refl)
 and_true false y e = absurd (cc e)
 
-true_and : (x y : Bool) → x ≡ true → y ≡ false → (x && not y) ≡ true
-true_and x y e f = rw (e, f) refl
+-- a trace that the pairs accept is wanted, and the other way round
+beside-accepted : (a : Automaton) (t : Table) (c : Constraint) → IsTable t → (w : List ℕ) → IsTrace a.symbols w → Accepts (pairs (steps_of a) (table_steps a.symbols t c false)) w → IsWanted a (Beside t c) w
+beside-accepted a t c h w tw is = and_true (accepts (steps_of a) w) (keeps_by t c w) (sym (accepts-pairs_table a t c false h w tw) ∙ is)
 
--- a trace that the pairs allow is wanted
-beside-allowed : (a : Automaton) (t : Table) (c : Constraint) → IsTable t → (w : List ℕ) → Allows (pairs a t c false) w → IsWanted a (Beside t c) w
-beside-allowed a t c h w is = and_true (accepts a w) (keeps_by t c w) (sym (allows-pairs a t c false h w) ∙ is)
-
-allowed-beside : (a : Automaton) (t : Table) (c : Constraint) → IsTable t → (w : List ℕ) → IsWanted a (Beside t c) w → Allows (pairs a t c false) w
-allowed-beside a t c h w is = allows-pairs a t c false h w ∙ true_and (accepts a w) (keeps_by t c w) is.0 is.1
+accepted-beside : (a : Automaton) (t : Table) (c : Constraint) → IsTable t → (w : List ℕ) → IsTrace a.symbols w → IsWanted a (Beside t c) w → Accepts (pairs (steps_of a) (table_steps a.symbols t c false)) w
+accepted-beside a t c h w tw is = accepts-pairs_table a t c false h w tw ∙ (rw (is.0, is.1) refl)
 
 pub found-beside : (a : Automaton) (t : Table) (c : Constraint) → IsTable t → (found : Option (List ℕ))
-    → MatchOption found (HasNoMember a.symbols (Allows (pairs a t c false))) (IsLeastMember a.symbols (Allows (pairs a t c false)))
-    → MatchOption found (HasNoMember a.symbols (IsWanted a (Beside t c))) (IsLeastMember a.symbols (IsWanted a (Beside t c)))
-found-beside a t c h None none = λ w tw is. none w tw (allowed-beside a t c h w is)
+    → IsLeastIfAny a.symbols (Accepts (pairs (steps_of a) (table_steps a.symbols t c false))) found → IsLeastIfAny a.symbols (IsWanted a (Beside t c)) found
+found-beside a t c h None none = λ w tw is. none w tw (accepted-beside a t c h w tw is)
 found-beside a t c h (Some trace) least = record {
   over = least.over;
-  member = beside-allowed a t c h trace least.member;
-  none_before = λ w tw is. least.none_before w tw (allowed-beside a t c h w is);
-}
-
-walk-graph_of : (a : Automaton) (q : ℕ) (w : List ℕ) → walk (graph_of a) q w ≡ run a q w
-walk-graph_of a q [] = refl
-walk-graph_of a q (x ∷ w) = walk-graph_of a (step a q x) w
-
-allows-graph_of : (a : Automaton) (w : List ℕ) → allows (graph_of a) w ≡ accepts a w
-allows-graph_of a w = ap (is_accepting a) (walk-graph_of a a.start w)
-
-pub found-accepted : (a : Automaton) (found : Option (List ℕ)) → MatchOption found (HasNoMember a.symbols (Allows (graph_of a))) (IsLeastMember a.symbols (Allows (graph_of a)))
-    → MatchOption found (HasNoMember a.symbols (IsWanted a Accepted)) (IsLeastMember a.symbols (IsWanted a Accepted))
-found-accepted a None none = λ w tw is. none w tw (allows-graph_of a w ∙ is)
-found-accepted a (Some trace) least = record {
-  over = least.over;
-  member = sym (allows-graph_of a trace) ∙ least.member;
-  none_before = λ w tw is. least.none_before w tw (allows-graph_of a w ∙ is);
+  member = beside-accepted a t c h trace least.over least.member;
+  none_before = λ w tw is. least.none_before w tw (accepted-beside a t c h w tw is);
 }

@@ -1,24 +1,40 @@
--- Pairs of a state of an automaton and a state of a constraint's table.
+-- Two automata side by side, and what a constraint's table accepts.
 use Rattle.std.specs.Prelude.{◌≡◌, ℕ, ◌*◌, ◌+◌, ◌/◌, ◌%◌, ◌≤◌, List, Bool, ◌&&◌, not, if◌then◌else◌}
 use Rattle.dfa_core.specs.Traces.{IsTrace}
-use Rattle.dfa_core.specs.Automaton.{Automaton, accepts, is_accepting, state_count, step}
-use Rattle.dfa_core.specs.Graph.{Graph}
+use Rattle.dfa_core.specs.Automaton.{Automaton, accepts, state_count}
+use Rattle.dfa_core.specs.Steps.{Steps}
 use Rattle.template_core.specs.Tables.{accepts_at, class, keeps_by, step as table_step}
 use Rattle.template_core.specs.declared.constraint.Constraint.{Constraint}
 use Rattle.template_core.specs.declared.table.Table.{Table}
 
--- A pair is one number. A walk may end where the automaton accepts and the table's answer is the one asked for.
-abbrev pub pairs : Automaton → Table → Constraint → Bool → Graph
-pairs a t c keeps = record {
-  symbols = a.symbols;
-  nodes = state_count a * t.states;
-  first = a.start * t.states + t.start;
-  next = λ node x. step a (node / t.states) x * t.states + table_step t (node % t.states) (class c x);
-  accepting = λ node. is_accepting a (node / t.states) && (if keeps then accepts_at t (node % t.states) else not (accepts_at t (node % t.states)));
+-- A pair of states is one number. A trace is accepted where both accept it.
+abbrev pub pairs : Steps → Steps → Steps
+pairs s t = record {
+  symbols = s.symbols;
+  states = s.states * t.states;
+  start = s.start * t.states + t.start;
+  next = λ q x. s.next (q / t.states) x * t.states + t.next (q % t.states) x;
+  accepting = λ q. s.accepting (q / t.states) && t.accepting (q % t.states);
 }
 
--- It accepts the traces that both accept, with at most as many states as there are pairs.
+-- A constraint's table over the symbols below n: the traces that it accepts, which keep the constraint, or the others.
+abbrev pub table_steps : ℕ → Table → Constraint → Bool → Steps
+table_steps n t c keeps = record {
+  symbols = n;
+  states = t.states;
+  start = t.start;
+  next = λ q x. table_step t q (class c x);
+  accepting = λ q. if keeps then accepts_at t q else not (accepts_at t q);
+}
+
+-- the traces that the automaton and the table accept, with at most as many states as there are pairs
 pub record IsMeet (a : Automaton) (t : Table) (c : Constraint) (r : Automaton) : Type 0 where
   pub over : r.symbols ≡ a.symbols
   pub both : (w : List ℕ) → IsTrace a.symbols w → accepts r w ≡ (accepts a w && keeps_by t c w)
   pub few_states : state_count r ≤ state_count a * t.states
+
+-- the traces that both automata accept, with at most as many states as there are pairs
+pub record IsIntersection (a b r : Automaton) : Type 0 where
+  pub over : r.symbols ≡ a.symbols
+  pub both : (w : List ℕ) → IsTrace a.symbols w → accepts r w ≡ (accepts a w && accepts b w)
+  pub few_states : state_count r ≤ state_count a * state_count b

@@ -1,12 +1,11 @@
-//! Intersections of automata with constraints, and least traces.
+//! Intersections of automata with each other and with constraints, and least traces.
 #![tactic(auto)]
 
-mod intersection;
 mod pairs;
-mod table;
+mod products;
 mod wanted;
 
-pub use intersection::meet;
+pub use products::{intersection, meet};
 pub use wanted::{Want, first_trace};
 
 #[cfg(test)]

@@ -1,50 +1,83 @@
-ghost use Rattle.std.specs.Prelude.{◌<◌, ◌*◌, ◌^◌};
-ghost use Rattle.dfa_core.specs.Automaton.{IsWhole, state_count};
+ghost use Rattle.std.specs.Prelude.{◌≡◌, ◌<◌, ◌*◌, ◌^◌};
+ghost use Rattle.dfa_core.specs.Automaton.{state_count};
 ghost use Rattle.template_core.specs.Tables.{IsTable};
 
-use crate::table::{is_accepting, next_state};
 use dfa_core::{Dfa, System};
 use template_core::{Constraint, Table, class_of};
 
-/// An automaton and a constraint's table side by side. It allows a trace that the automaton accepts and that keeps the constraint, or doesn't keep it.
+/// Two automata side by side: a pair of their states is one number. A trace is accepted where both accept it.
 #[derive(Drop)]
-pub(crate) struct Product<'a> {
-    pub dfa: &'a Dfa,
+pub(crate) struct Pairs<'a, S: System> {
+    pub first: &'a Dfa,
+    pub second: &'a S,
+    /// How many states the second has.
+    pub width: u32,
+    ghost width_told: { width ≡ (S.steps second.now).states },
+    ghost same_symbols: { (S.steps second.now).symbols ≡ first.now.symbols },
+    ghost fits: { state_count first.now * width < 2 ^ 32 },
+}
+
+impl<S: System> System for Pairs<'_, S> {
+    ghost use Rattle.dfa_core.specs.Automaton.{steps_of};
+    ghost use Rattle.dfa_product.specs.Pairs.{pairs};
+
+    ghost steps = { λ p. pairs (steps_of p.first.now) (S.steps p.second.now) };
+
+    fn symbols(&self) -> u32 {
+        self.first.symbols()
+    }
+
+    fn states(&self) -> u32 {
+        self.first.states() * self.width
+    }
+
+    fn start(&self) -> u32 {
+        self.first.start() * self.width + self.second.start()
+    }
+
+    fn step(&self, state: u32, symbol: u32) -> u32 {
+        let first = self.first.step(state / self.width, symbol);
+        first * self.width + self.second.step(state % self.width, symbol)
+    }
+
+    fn accepting(&self, state: u32) -> bool {
+        self.first.accepting(state / self.width) && self.second.accepting(state % self.width)
+    }
+}
+
+/// A constraint's table as an automaton over so many symbols. It accepts the traces that keep the constraint, or all others.
+#[derive(Drop)]
+pub(crate) struct TableSteps<'a> {
+    pub symbols: u32,
     pub table: &'a Table,
     pub constraint: &'a Constraint,
     pub keeps: bool,
-    ghost table_ok: { IsTable table.now },
-    ghost fits: { state_count dfa.now * table.now.states < 2 ^ 32 },
+    ghost whole: { IsTable table.now },
 }
 
-impl System for Product<'_> {
-    ghost use Rattle.dfa_product.specs.Pairs.{pairs};
+impl System for TableSteps<'_> {
+    ghost use Rattle.dfa_product.specs.Pairs.{table_steps};
 
-    ghost graph = { λ p. pairs p.dfa.now p.table.now p.constraint.now p.keeps };
+    ghost steps = { λ t. table_steps t.symbols t.table.now t.constraint.now t.keeps };
 
     fn symbols(&self) -> u32 {
-        self.dfa.symbols()
+        self.symbols
     }
 
-    fn nodes(&self) -> u32 {
-        self.dfa.states() * self.table.states as u32
+    fn states(&self) -> u32 {
+        self.table.states as u32
     }
 
-    fn first(&self) -> u32 {
-        self.dfa.start() * self.table.states as u32 + self.table.start as u32
+    fn start(&self) -> u32 {
+        self.table.start as u32
     }
 
-    fn next(&self, node: u32, symbol: u32) -> u32 {
-        let width = self.table.states as u32;
-        let state = self.dfa.step(node / width, symbol);
+    fn step(&self, state: u32, symbol: u32) -> u32 {
         let class = class_of(self.constraint, symbol);
-        let table_state = next_state(self.table, (node % width) as u8, class);
-        state * width + table_state as u32
+        self.table.step(state as u8, class) as u32
     }
 
-    fn accepting(&self, node: u32) -> bool {
-        let width = self.table.states as u32;
-        let keeps = is_accepting(self.table, (node % width) as u8);
-        self.dfa.accepting(node / width) && if self.keeps { keeps } else { !keeps }
+    fn accepting(&self, state: u32) -> bool {
+        self.table.accepts_at(state as u8) == self.keeps
     }
 }

@@ -1,7 +1,7 @@
 ghost use Rattle.std.specs.Prelude.{◌≡◌};
 ghost use Rattle.template_core.specs.Tables.{IsTable};
 
-use crate::{Want, first_trace, meet};
+use crate::{Want, first_trace, intersection, meet};
 use dfa_core::Dfa;
 use std::test::Fail;
 use template_core::{Constraint, Kind, Table};
@@ -54,6 +54,8 @@ fn least_traces(rt: HostRuntime) -> Result<(), Fail> {
     };
     let all = Dfa::everything(alloc, 2)?;
     let once = meet(alloc, &all, &init(), &begins)?;
+    let last = meet(alloc, &all, &end(), &ends)?;
+    assert_eq!(rt; intersection(alloc, &once, &last)?.states(), 5);
     let both = meet(alloc, &once, &end(), &ends)?;
     assert_eq!(rt; both.states(), 5);
     match first_trace(alloc, &both, &Want::Accepted)? {

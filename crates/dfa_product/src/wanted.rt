@@ -1,10 +1,10 @@
-ghost use Rattle.std.specs.Prelude.{◌≡◌, IfOk, IfErr, MatchOption};
-ghost use Rattle.dfa_core.specs.Languages.{HasNoMember, IsLeastMember};
+ghost use Rattle.std.specs.Prelude.{◌≡◌, IfOk, IfErr};
+ghost use Rattle.dfa_core.specs.Languages.{IsLeastIfAny};
 ghost use Rattle.dfa_product.specs.Wanted.{FitsStates, IsWanted};
 
-use crate::pairs::Product;
+use crate::pairs::{Pairs, TableSteps};
 use decl_base::{Refusal, Trace};
-use dfa_core::{Dfa, first_allowed};
+use dfa_core::{Dfa, first_accepted};
 use std::alloc::Global;
 use template_core::{Constraint, Table};
 
@@ -20,22 +20,28 @@ pub enum Want {
     },
 }
 
-/// The least trace in shortlex order that is wanted of the automaton.
+/// The least trace in shortlex order that is wanted of the automaton. The search ends at the first that it finds, so that this also tells
+/// whether all that the automaton accepts keeps a constraint, and builds no table for it.
 pub fn first_trace(alloc: Global, dfa: &Dfa, want: &Want) -> Result<Option<Trace>, Refusal>
     requires { FitsStates dfa.now want.now }
-    ensures ok { IfOk result (λ found. MatchOption found (HasNoMember dfa.now.symbols (IsWanted dfa.now want.now)) (IsLeastMember dfa.now.symbols (IsWanted dfa.now want.now))) }
+    ensures ok { IfOk result (IsLeastIfAny dfa.now.symbols (IsWanted dfa.now want.now)) }
     ensures err { IfErr result (λ e. e ≡ Refusal.Memory) }
 {
     match want {
-        Want::Accepted => first_allowed(alloc, dfa),
+        Want::Accepted => first_accepted(alloc, dfa),
         Want::Beside { table, constraint } => {
-            let product = Product {
-                dfa,
+            let second = TableSteps {
+                symbols: dfa.symbols(),
                 table,
                 constraint,
                 keeps: false,
             };
-            first_allowed(alloc, &product)
+            let pairs = Pairs {
+                first: dfa,
+                second: &second,
+                width: table.states as u32,
+            };
+            first_accepted(alloc, &pairs)
         }
     }
 }

@@ -1,35 +1,38 @@
-use Rattle.std.proofs.Common.{◌≡◌, ◌+◌, ◌*◌, ℕ, length, sym, ap, ◌∙◌, arith}
-use Rattle.dfa_core.proofs.Finding.{few-partial, partial-more, explored-all}
+use Rattle.std.proofs.Common.{◌≡◌, ◌*◌, ℕ, length, refl, sym, ap, ◌∙◌, arith}
+use Rattle.std.proofs.lemmas.List.{length_push}
+use Rattle.dfa_core.proofs.Searches.{on-more, entries-more, explored-all, few-search}
 use Rattle.dfa_core.proofs.reach.explore.Goals as goal
 
-pub lead_to-requires-clause-few : goal.lead_to-requires-clause-few
-lead_to-requires-clause-few g c =
-    let le = few-partial (g.S.System.graph c.args.system.now) _ _ _ _ c.loop-symbol.invariant.part in
-    omega (arith, c.nodes.type_inv, c.nodes.ensures, le, c.loop-symbol.search.nodes.ok.0)
+pub number_of-requires-clause-few : goal.number_of-requires-clause-few
+number_of-requires-clause-few g c =
+    let le = few-search (g.S.System.steps c.args.system.now) _ _ _ c.steps.invariant.on.order in
+    omega (arith, c.states.type_inv, c.states.ensures, le, c.steps.search.states.ok.0)
 
-pub loop-symbol-preserved : goal.loop-symbol-preserved
-loop-symbol-preserved g c =
-    let i = c.loop-symbol.invariant in
-    let e = c.symbols-symbols.ensures in
-    let row : length c.loop-symbol.search.next.items ≡ c.loop-at.at * (g.S.System.graph c.args.system.now).symbols + c.loop-symbol.symbol = i.row ∙ ap (λ (n : ℕ). c.loop-at.at * n + c.loop-symbol.symbol) e in
-    let s = partial-more (g.S.System.graph c.args.system.now) c.loop-symbol.search c.lead_to.new.search c.loop-at.at c.loop-symbol.symbol c.next.result
-    i.part i.in_nodes (omega (arith, e)) row (c.next.ensures.value ∙ ap (λ q. (g.S.System.graph c.args.system.now).next q c.loop-symbol.symbol) i.node) c.next.ensures.bound c.in_ok-lead_to.ensures.ok in
-    record {
-      part = s.part;
-      row = omega (arith, s.longer, i.row);
-      in_nodes = omega (arith, s.nodes, i.in_nodes);
-      node = i.node ∙ sym (s.stay c.loop-at.at i.in_nodes);
-    }
+pub steps-preserved : goal.steps-preserved
+steps-preserved g c =
+    let a = g.S.System.steps c.args.system.now in
+    let i = c.steps.invariant in
+    let next = c.steps.next.items in
+    let place : c.len-in-steps.result ≡ length next = omega (arith, c.len-in-steps.ensures, c.steps.next.ok.0) in
+    let numbers = rw place at c.in_ok-number.ensures.ok in
+    let s = on-more a c.steps.search c.number_of.new.self (length next) c.rows.at c.steps.symbol c.step-target.result c.in_ok-number.number i.on i.row i.in_states
+    (omega (arith, c.symbols-symbols.ensures)) (c.step-target.ensures.value ∙ ap (λ q. a.next q c.steps.symbol) i.state) c.step-target.ensures.bound numbers in
+    rw (c.in_ok-push.ensures.items, length_push next c.in_ok-number.number) (record {
+      on = s.on;
+      entries = entries-more a c.steps.search c.number_of.new.self next c.rows.at c.steps.symbol c.in_ok-number.number s i.in_states (omega (arith, c.symbols-symbols.ensures)) i.row i.entries;
+      row = omega (arith, i.row);
+      in_states = omega (arith, s.grows, i.in_states);
+      state = i.state ∙ sym (s.stay c.rows.at i.in_states);
+    })
 
-pub loop-at-smaller : goal.loop-at-smaller
-loop-at-smaller g c =
-    let le = few-partial (g.S.System.graph c.args.system.now) _ _ _ _ c.loop-at.invariant.part in
-    omega (arith, le, c.loop-at-test.true, c.len.ensures, c.loop-at.search.nodes.ok.0)
+pub rows-smaller : goal.rows-smaller
+rows-smaller g c =
+    let le = few-search (g.S.System.steps c.args.system.now) _ _ _ c.rows.invariant.on.order in
+    omega (arith, le, c.rows-test.true, c.len.ensures, c.rows.search.states.ok.0)
 
 pub returns-clause-ok : goal.returns-clause-ok
 returns-clause-ok g c =
-    explored-all (g.S.System.graph c.args.system.now) _ _ _ _ c.loop-at.invariant.part
-    (let same : c.loop-at.at ≡ length c.loop-at.search.nodes.items = omega (arith, c.loop-at-test.false, c.len.ensures, c.loop-at.search.nodes.ok.0, c.loop-at.invariant.in_nodes) in
-    let e = c.symbols-symbols.ensures in
-    c.loop-at.invariant.rows ∙ (ap (λ (n : ℕ). n * c.symbols-symbols.result) same ∙ ap (λ (n : ℕ). length c.loop-at.search.nodes.items * n) e))
-    (omega (arith, c.nodes.type_inv, c.nodes.ensures))
+    let a = g.S.System.steps c.args.system.now in
+    let i = c.rows.invariant in
+    let same : c.rows.at ≡ length c.rows.search.states.items = omega (arith, c.rows-test.false, c.len.ensures, c.rows.search.states.ok.0, i.in_states) in
+    explored-all a _ _ _ _ i.on.order (i.rows ∙ ap (λ (n : ℕ). n * a.symbols) same) refl i.entries (omega (arith, c.states.type_inv, c.states.ensures))

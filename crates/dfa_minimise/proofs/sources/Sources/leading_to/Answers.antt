@@ -3,7 +3,7 @@ use Rattle.std.proofs.lemmas.List.{get_or_read, length_push}
 use Rattle.std.proofs.lemmas.Nat.{mul-add-lt}
 use Rattle.std.proofs.Math.Nat.{mul_comm}
 use Rattle.dfa_core.specs.Automaton.{state_count, step}
-use Rattle.dfa_core.proofs.Finding.{pushed}
+use Rattle.dfa_core.proofs.Places.{pushed}
 use Rattle.dfa_minimise.proofs.Progress.{after}
 use Rattle.dfa_minimise.specs.Partitions.{is_in}
 use Rattle.dfa_minimise.specs.Preimages.{IsGreatest}

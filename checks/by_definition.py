@@ -126,7 +126,7 @@ def options():
     words.add_argument("--seed", type=int, default=1)
     words.add_argument("--model", action="store_true", help="the program has stage `model`, as the default")
     words.add_argument("--no-limits", dest="limits", action="store_false", help="leave out the large inputs")
-    words.add_argument("--traces", type=int, default=4000, help="at most so many traces are tried for one search")
+    words.add_argument("--traces", type=int, default=10_000, help="at most so many traces are tried for one search")
     return words.parse_args()
 
 

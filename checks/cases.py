@@ -335,12 +335,14 @@ def limits(chance, stages):
     events = (line + b"\n") * 15
     for text in [events + line[1:], events + line, events + line + b"\n\xff", events + line[:-1] + b"b"]:
         yield Case("limits: events", string, text)
-    for text in [characters(1001), b"a\n" + characters(1000), characters(999) + b"\n" + "é€".encode()]:
+    # Where a limit is met just, the fault behind it is the first.
+    for text in [characters(1001), b"a\n" + characters(1000), characters(1000) + b"\n\xff"]:
         yield Case("limits: activities", string, text)
-    names = "".join(f"1,{place}\n" for place in range(1001)).encode()
-    yield Case("limits: activities", table, b"case,activity\n" + names)
+    names = b"case,activity\n" + "".join(f"1,{place}\n" for place in range(1000)).encode()
+    for text in [names + b"1,more\n", names + b"2,7\n1\n"]:
+        yield Case("limits: activities", table, text)
     cases = b"case,activity\n" + "".join(f"{place},a\n" for place in range(1_048_575)).encode()
-    for text in [cases, cases + b"x,a\n", cases + b"1,a\n"]:
+    for text in [cases + b"x,a\n", cases + b"1,a\n1\n"]:
         yield Case("limits: traces", table, text)
     for more in [0, 1]:
         yield Case("limits: bytes of a CSV log", table, b"case,activity\n" + b"\n" * (134_217_728 - 14 + more))

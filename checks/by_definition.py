@@ -11,20 +11,27 @@ Ends with 0 where all runs are as defined, and with 1 at the first that is not, 
 """
 
 import argparse
+import contextlib
 import os
 import random
+import socket
 import subprocess
 import sys
 import tempfile
+import threading
 from collections import Counter
 
 import cases
-from defined.outcome import Definitions, Outcome
+from defined.outcome import Definitions, Input, Outcome
 from defined.refusals import STATUSES, Refused
 
-NOT_TRIED = """Not tried: a read that fails behind the first; a write that fails behind the first; want of memory (status 8);
-numbers of activities, traces and events between the small ones and the limits; more than four activities where
-constraints are dropped."""
+NOT_TRIED = """Not tried: want of memory (status 8); files that fail behind their first byte; numbers of activities, traces and events
+between the small ones and the limits; more than four activities where constraints are dropped."""
+
+NO_TEXT = "words that are no text"
+
+
+# What is wanted
 
 
 def reader(case):
@@ -32,19 +39,29 @@ def reader(case):
     files = {name.removeprefix("./"): data for name, data in case.files.items()}
 
     def read(name):
-        return case.stdin if name == "-" else files.get(name.removeprefix("./"))
+        if name == "-":
+            return Input(case.stdin, case.fails)
+        data = files.get(name.removeprefix("./"))
+        return None if data is None else Input(data)
 
     return read
 
 
+def is_text(word):
+    return isinstance(word, str) or word.decode("utf-8", "ignore").encode() == word
+
+
 def wanted(definitions, case):
-    if any(isinstance(word, bytes) and word.decode("utf-8", "replace").encode() != word for word in case.words):
-        return Outcome(9, b"", b"", "words that are no text")
+    if not all(map(is_text, case.words)):
+        return Outcome(9, b"", b"", NO_TEXT)
     outcome = definitions.outcome([os.fsdecode(word) for word in case.words], reader(case))
-    if case.full == "out" and not outcome.refusal:
+    if case.short == "out" and len(outcome.out) > case.room:
         fault = Refused("WriteFault")
-        outcome = Outcome(fault.status, outcome.out, fault.line, fault.name)
+        return Outcome(fault.status, outcome.out, fault.line, fault.told)
     return outcome
+
+
+# What the program does
 
 
 def write_files(folder, files):
@@ -57,27 +74,83 @@ def write_files(folder, files):
                 file.write(data)
 
 
+def send_in_pieces(end, data, size):
+    """Each message is a read. The program may leave before the last."""
+    with end, contextlib.suppress(OSError):
+        for at in range(0, len(data), size):
+            end.send(data[at : at + size])
+
+
+def cut_input(case):
+    """A standard input that gives so many bytes a read at most."""
+    ours, theirs = socket.socketpair(socket.AF_UNIX, socket.SOCK_SEQPACKET)
+    threading.Thread(target=send_in_pieces, args=(ours, case.stdin, case.per_read), daemon=True).start()
+    return theirs
+
+
+def failing_input(case):
+    """A standard input that is reset behind its bytes: its other end is closed while something for it is unread."""
+    ours, theirs = socket.socketpair()
+    theirs.send(b"unread")
+    ours.sendall(case.stdin)
+    ours.close()
+    return theirs
+
+
+def input_of(case, folder):
+    if case.fails:
+        return failing_input(case)
+    if case.per_read:
+        return cut_input(case)
+    path = os.path.join(folder, "standard input")
+    write_files(folder, {"standard input": case.stdin})
+    return open(path, "rb")
+
+
 def run(program, case):
-    """Its status, and what stands on both outputs. An output that takes nothing is left out of the comparison."""
-    with tempfile.TemporaryDirectory() as folder, open("/dev/full", "wb") as full:
+    """Its status, and what stands on both outputs. An output with little room is a file of limited length."""
+    with tempfile.TemporaryDirectory() as folder, tempfile.TemporaryDirectory() as beside:
         write_files(folder, case.files)
-        ends = {"out": subprocess.PIPE, "err": subprocess.PIPE} | ({case.full: full} if case.full else {})
-        done = subprocess.run(
-            [program, *case.words],
-            input=case.stdin,
-            stdout=ends["out"],
-            stderr=ends["err"],
-            cwd=folder,
-            check=False,
-        )
-    return {"status": done.returncode, "out": done.stdout, "err": done.stderr}
+        paths = {name: os.path.join(beside, name) for name in ["out", "err"]}
+        with input_of(case, beside) as stdin, open(paths["out"], "wb") as out, open(paths["err"], "wb") as err:
+            limit = [] if not case.short else ["prlimit", f"--fsize={case.room}", "--"]
+            ends = {"out": out, "err": err}
+            pipe = {"out": "err", "err": "out"}.get(case.short)
+            ends |= {pipe: subprocess.PIPE} if pipe else {}
+            done = subprocess.run(
+                [*limit, program, *case.words],
+                stdin=stdin,
+                stdout=ends["out"],
+                stderr=ends["err"],
+                cwd=folder,
+                # A write beyond the length fails, and doesn't end the program.
+                restore_signals=not case.short,
+                check=False,
+            )
+        piped = {"out": done.stdout, "err": done.stderr}
+        found = {name: read_file(path) if piped[name] is None else piped[name] for name, path in paths.items()}
+    return {"status": done.returncode, **found}
 
 
-def differences(found, outcome):
-    """Which of the three parts differ. An output that goes nowhere is None."""
-    for part in ["status", "out", "err"]:
-        if found[part] is not None and found[part] != getattr(outcome, part):
-            yield part
+def read_file(path):
+    with open(path, "rb") as file:
+        return file.read()
+
+
+# The comparison
+
+
+def is_as_wanted(part, found, outcome, case):
+    """The same; of an output that fails, a prefix."""
+    whole = getattr(outcome, part)
+    if part == case.short and len(whole) > case.room:
+        return whole.startswith(found)
+    return found == whole
+
+
+def differences(found, outcome, case):
+    """Which of the three parts differ."""
+    return [part for part in ["status", "out", "err"] if not is_as_wanted(part, found[part], outcome, case)]
 
 
 def shown(value):
@@ -87,7 +160,8 @@ def shown(value):
 
 def show(case, found, outcome, parts):
     print(f"differs in {', '.join(parts)}: {case.tries}: {case.words}")
-    print(f"standard input: {case.stdin[:400]!r}, files: {sorted(case.files)}, takes nothing: {case.full or 'none'}")
+    print(f"standard input: {case.stdin[:400]!r}, a read: {case.per_read or 'all'}, fails: {case.fails}")
+    print(f"files: {sorted(case.files)}, room: {f'{case.short} {case.room}' if case.short else 'all'}")
     for part in parts:
         print(f"--- {part} printed:\n{shown(found[part])}\n--- {part} wanted:\n{shown(getattr(outcome, part))}")
 
@@ -107,9 +181,14 @@ def print_counts(title, counts):
         print(f"{count:>8}  {name}")
 
 
+def refusal_names(definitions):
+    phases = range(1, 5 if "model" in definitions.stages else 2)
+    return [name for name in STATUSES if name != "States"] + [f"States, phase {phase}" for phase in phases] + [NO_TEXT]
+
+
 def summary(definitions, tried, refused):
     print_counts("Runs that were as defined:", tried)
-    print_counts("Refusals among them:", {name: refused[name] for name in [*STATUSES, "words that are no text"]})
+    print_counts("Refusals among them:", {name: refused[name] for name in refusal_names(definitions)})
     found, none, undecided = (sum(getattr(s, part) for s in definitions.counted) for part in ["found", "none", "undecided"])
     print("Searches for the least trace that keeps a list, and breaks one constraint where one is given:")
     print(f"{found:>8}  found by trying all traces up to a length, and by an automaton the same")
@@ -139,7 +218,7 @@ def main():
     for case in all_cases(given, stages):
         outcome = wanted(definitions, case)
         found = run(program, case)
-        parts = list(differences(found, outcome))
+        parts = differences(found, outcome, case)
         if parts:
             show(case, found, outcome, parts)
             return 1

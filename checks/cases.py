@@ -2,7 +2,14 @@
 
 import csv
 import io
+import sys
+from collections import Counter
 from dataclasses import dataclass, field
+from fractions import Fraction
+
+from defined.automata import told_apart
+from defined.reduction import Searches, built_lists, reduced
+from defined.scores import candidates
 
 STAGE_OPTION = "--stage"
 
@@ -19,8 +26,13 @@ class Case:
     words: list
     stdin: bytes = b""
     files: dict = field(default_factory=dict)
-    # Where the output goes that can take nothing: "out", "err" or nowhere.
-    full: str = ""
+    # Standard input gives so many bytes a read at most, or as many as are asked for.
+    per_read: int = 0
+    # Standard input fails behind its bytes.
+    fails: bool = False
+    # Which output has room for so many bytes only: "out", "err" or none.
+    short: str = ""
+    room: int = 0
 
 
 # Random logs.
@@ -93,13 +105,28 @@ def random_logs(chance, stages):
         yield Case("CSV logs at random, ordered by number", words + BY_NUMBER, table)
 
 
+def needed_states(log, thresholds, stage):
+    """For each phase, the most traces that one of its lists tells apart."""
+    names = sorted({name for trace in log for name in trace})
+    ranked = [tuple(names.index(name) for name in trace) for trace in log]
+    scored = candidates(ranked, len(names), thresholds)
+    model = reduced([constraint for constraint, _ in scored], stage, Searches(len(names), 100), sys.maxsize)
+    most = Counter()
+    for phase, constraints in built_lists(model, stage):
+        most[phase] = max(most[phase], told_apart(len(names), constraints))
+    return most
+
+
 def few_states(chance, stages):
-    """The limit on states, at the stages that have one, mostly where it's met."""
-    text = as_lines(random_log(chance))
+    """The limit on states, at what each phase needs and at one less; so a later phase may be the first that refuses."""
+    log = random_log(chance)
+    thresholds = [Fraction(chance.randint(0, 19), 20) for _ in range(3)]
+    options = [f"--{name}={float(x):g}" for name, x in zip(["support", "confidence", "interest"], thresholds)]
     for stage in stages:
-        states = str(chance.randint(1, 12))
-        words = ["mine", STAGE_OPTION, stage, "--max-states", states, *random_thresholds(chance)]
-        yield Case("the limit on states", words, text)
+        most = needed_states(log, thresholds, stage)
+        for states in sorted({max(1, number - less) for number in most.values() for less in [0, 1]}):
+            words = ["mine", STAGE_OPTION, stage, "--max-states", str(states), *options]
+            yield Case("the limit on states", words, as_lines(log))
 
 
 def default_thresholds(chance, stages):
@@ -253,11 +280,35 @@ def faults_of_the_system(stages):
     files = {"log.txt": b"ab\n", "folder": None}
     for name in ["nowhere", "folder", "log.txt/deeper", "", "nowhere/log.txt"]:
         yield from on_each_stage("inputs that can't be opened or read", stages, [name], files=files)
-    for words in [["log.txt"], [], ["nowhere"]]:
-        for full in ["out", "err"]:
-            for case in on_each_stage("outputs that take nothing", stages, words, stdin=b"\xff", files=files):
-                yield Case(case.tries, case.words, case.stdin, case.files, full)
-    yield Case("outputs that take nothing", [], full="err")
+
+
+def reads_cut(chance, stages):
+    """Reads of one to three bytes, so that characters and line ends are cut."""
+    log = random_log(chance, ["a", "é", "€", "\U0001f600"])
+    for per_read in [1, 2, 3]:
+        for text in [as_lines(log, "\r\n"), as_lines(log)[:-1], as_lines(log) + b"\xc3"]:
+            yield from on_each_stage("reads that cut anywhere", stages, [], stdin=text, per_read=per_read)
+        table = as_csv(log, chance)
+        yield from on_each_stage("reads that cut anywhere", stages, BY_NUMBER, stdin=BYTE_ORDER_MARK + table, per_read=per_read)
+
+
+def failing_reads(chance, stages):
+    """A read that fails: behind good lines, behind one at fault, and behind one that isn't read whole."""
+    lines = as_lines(random_log(chance))
+    for text in [b"", lines, lines[:-1], lines + b"\xff\n" + lines, lines + b"\xff", b"case,activity\n1,a\n"]:
+        yield from on_each_stage("reads that fail", stages, [], stdin=text, fails=True)
+        yield from on_each_stage("reads that fail", stages, ["--format", "csv"], stdin=text, fails=True)
+
+
+def short_outputs(chance, stages):
+    """Outputs that fail at their first byte or later."""
+    text = as_lines(random_log(chance))
+    for room in [0, 1, chance.randint(2, 60)]:
+        for short in ["out", "err"]:
+            for data in [text, text + b"\xff"]:
+                inputs = {"stdin": data, "short": short, "room": room}
+                yield from on_each_stage("outputs that fail", stages, [], **inputs)
+            yield Case("outputs that fail", [], short=short, room=room)
 
 
 # The words.
@@ -370,10 +421,13 @@ EACH_SEED = [
     byte_order_marks,
     bad_lines,
     bad_records,
+    reads_cut,
+    failing_reads,
+    short_outputs,
     words_at_random,
 ]
 # Those that are long for what they tell are tried with every fifth log.
-SOMETIMES = [empty_traces, carriage_returns, named_files, byte_order_marks]
+SOMETIMES = [empty_traces, carriage_returns, named_files, byte_order_marks, reads_cut, failing_reads, short_outputs]
 
 
 def by_hand(stages):

@@ -13,6 +13,14 @@ CANDIDATES = 65_536
 
 
 @dataclass
+class Input:
+    """What an input holds; where it fails, a read behind these bytes does."""
+
+    data: bytes
+    fails: bool = False
+
+
+@dataclass
 class Outcome:
     """The exit status, what stands on standard output and on standard error, and the name of a refusal."""
 
@@ -32,17 +40,17 @@ class Definitions:
     counted: list = field(default_factory=list)
 
     def outcome(self, words, read):
-        """`read` gives the bytes of an input by its name, or None where it can't be read."""
+        """`read` gives an Input by its name, or None where it can't be opened or not be read at all."""
         try:
             return Outcome(0, self.text(settings(words, Grammar(self.stages, self.default_stage)), read), b"")
         except Refused as refused:
-            return Outcome(refused.status, b"", refused.line, refused.name)
+            return Outcome(refused.status, b"", refused.line, refused.told)
 
     def text(self, given, read):
-        data = read(given["log"])
-        if data is None:
+        found = read(given["log"])
+        if found is None:
             raise Refused("ReadFault")
-        named = self.log(given, data)
+        named = self.log(given, found)
         names = sorted({name for trace in named for name in trace}, key=lambda name: name.encode())
         rank = {name: place for place, name in enumerate(names)}
         log = [tuple(rank[name] for name in trace) for trace in named]
@@ -50,11 +58,20 @@ class Definitions:
             return texts.kb_table(names, log)
         return self.report(given, names, log)
 
-    def log(self, given, data):
+    def log(self, given, found):
         if given["format"] == "string":
-            return string_log(data)
+            return self.string_log(found)
+        if found.fails:
+            raise Refused("ReadFault")
         columns = [given[name] for name in ["case-column", "activity-column", "order-column"] if given[name] is not None]
-        return csv_log(data, columns, given["order-as"] == "number")
+        return csv_log(found.data, columns, given["order-as"] == "number")
+
+    def string_log(self, found):
+        """Lines are tried as they come: one at fault that was read whole comes before a read that fails."""
+        if not found.fails:
+            return string_log(found.data)
+        string_log(found.data[: found.data.rfind(b"\n") + 1])
+        raise Refused("ReadFault")
 
     def report(self, given, names, log):
         scored = candidates(log, len(names), [given[name] for name in ["support", "confidence", "interest"]])

@@ -24,6 +24,7 @@ class Refused(Exception):
 
     def __init__(self, name, *numbers):
         super().__init__(name, *numbers)
-        self.name = name
+        # The name, and of the limit on states the phase too.
+        self.told = f"{name}, phase {numbers[0]}" if name == "States" else name
         self.status, text = STATUSES[name]
         self.line = f"minerful: {text.format(*numbers)}\n".encode()

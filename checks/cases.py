@@ -117,16 +117,30 @@ def needed_states(log, thresholds, stage):
     return most
 
 
-def few_states(chance, stages):
-    """The limit on states, at what each phase needs and at one less; so a later phase may be the first that refuses."""
-    log = random_log(chance)
-    thresholds = [Fraction(chance.randint(0, 19), 20) for _ in range(3)]
+def at_the_limit(log, thresholds, stages):
+    """At what each phase needs, and at one less; so a later phase may be the first that refuses."""
     options = [f"--{name}={float(x):g}" for name, x in zip(["support", "confidence", "interest"], thresholds)]
     for stage in stages:
         most = needed_states(log, thresholds, stage)
         for states in sorted({max(1, number - less) for number in most.values() for less in [0, 1]}):
             words = ["mine", STAGE_OPTION, stage, "--max-states", str(states), *options]
             yield Case("the limit on states", words, as_lines(log))
+
+
+def few_states(chance, stages):
+    thresholds = [Fraction(chance.randint(0, most), 20) for most in [19, 5, 0]]
+    yield from at_the_limit(random_log(chance), thresholds, with_limit(stages))
+
+
+def states_of_each_phase(stages):
+    """Logs of which the second, the third and the fourth phase need more states than all before."""
+    for log, support, confidence in [(["cc", "ca"], 2, 0), (["ab"], 4, 1), (["", "aacc"], 2, 1), (["ab", "ab"], 3, 1)]:
+        thresholds = [Fraction(support, 5), Fraction(confidence, 4), Fraction(0)]
+        yield from at_the_limit([list(trace) for trace in log], thresholds, with_limit(stages))
+
+
+def with_limit(stages):
+    return [stage for stage in stages if stage != "scores"]
 
 
 def default_thresholds(chance, stages):
@@ -349,7 +363,10 @@ def random_words(chance, known):
 def words_at_random(chance, _):
     files = {"log.txt": b"ab\nb\n"}
     for known in [True, True, False]:
-        yield Case("words at random", random_words(chance, known), b"case,activity,x\n1,a,1\n2,b,2\n", files)
+        words = random_words(chance, known)
+        as_records = any(word.endswith("csv") for word in words)
+        text = b"case,activity,x\n1,a,1\n2,b,2\n" if as_records else b"ab\na\n"
+        yield Case("words at random", words, text, files)
 
 
 def words_by_hand():
@@ -400,9 +417,8 @@ def limits(chance, stages):
     nothing = ["--support", "0", "--confidence", "0", "--interest", "0"]
     for count in [71, 72]:
         yield Case("limits: candidates", ["mine", STAGE_OPTION, "scores", *nothing], characters(count))
-    for stage in stages:
-        if stage != "scores":
-            yield Case("limits: candidates", ["mine", STAGE_OPTION, stage, *nothing], characters(72))
+    for stage in with_limit(stages):
+        yield Case("limits: candidates", ["mine", STAGE_OPTION, stage, *nothing], characters(72))
 
 
 # All.
@@ -431,7 +447,7 @@ SOMETIMES = [empty_traces, carriage_returns, named_files, byte_order_marks, read
 
 
 def by_hand(stages):
-    for make in [empty_logs, just_reached, missing_columns, faults_of_the_system]:
+    for make in [empty_logs, just_reached, states_of_each_phase, missing_columns, faults_of_the_system]:
         yield from make(stages)
     yield from words_by_hand()
     yield from words_that_are_no_text()
@@ -440,5 +456,4 @@ def by_hand(stages):
 def at_random(chance, stages, number):
     for make in EACH_SEED:
         if make not in SOMETIMES or number % 5 == 0:
-            with_limit = [stage for stage in stages if stage != "scores"]
-            yield from make(chance, with_limit if make is few_states else stages)
+            yield from make(chance, stages)

@@ -4,8 +4,9 @@
 
 README's table of refusals is tried against crates/decl_base: each row's status and line is that of a refusal of
 specs/Refusal.antt, each refusal of a built command has its row, and the texts that src/refusal.rt derives are those
-lines. Of docs/DEFINITIONS.md each module that is pointed to is there, with the names beside it, and each clause stands
-at its function. Prints what differs, and ends with 1 where something does.
+lines. README's table of the clauses of `run` and its table of crates name clauses that are there. Of docs/DEFINITIONS.md
+each module that is pointed to is there, with the names beside it, and each clause stands at its function. Prints what
+differs, and ends with 1 where something does.
 """
 
 import glob
@@ -92,25 +93,46 @@ def code_of(crate):
     return "\n".join(text_of(os.path.relpath(path, ROOT)) for path in paths)
 
 
-def clauses_of(code, function):
-    """The clauses of each function of this name."""
-    found = set()
-    for head in re.findall(rf"fn {function}\b(.*?)\n *(?:\{{|\}}|fn |ghost )", code, re.DOTALL):
-        found |= set(re.findall(r"ensures (\w+)", head))
-    return found
+def clauses_of(code, name):
+    """The clauses of each function of this name; of a type or a trait those of all functions of its crate."""
+    if re.search(rf"(?:trait|struct) {name}\b", code):
+        return set(re.findall(r"ensures (\w+)", code))
+    heads = re.findall(rf"fn {name}\b(.*?)\n *(?:\{{|\}}|fn |ghost )", code, re.DOTALL)
+    return {clause for head in heads for clause in re.findall(r"ensures (\w+)", head)}
+
+
+def is_declared(code, name):
+    return re.search(rf"(?:fn|ghost|const|trait|struct) {name}\b", code)
+
+
+def crates():
+    return [line.split(":")[0] for line in text_of("crates.txt").splitlines()]
 
 
 def clause_faults(line):
     """A crate in backquotes before a colon, then functions, each followed by its clauses."""
-    pieces = re.split(r"`(\w+)`: ", line)
+    pieces = re.split(rf"`({'|'.join(crates())})`: ", line)
     for crate, behind in zip(pieces[1::2], pieces[2::2]):
         code, clauses = code_of(crate), set()
-        for name in re.findall(r"`([\w:]+)`", behind):
-            function = name.split("::")[-1]
-            if name not in clauses and re.search(rf"fn {function}\b|ghost {function}\b|const {function}\b|(?:trait|struct) {function}\b", code):
-                clauses = clauses_of(code, function)
+        for path in re.findall(r"`([\w:]+)`", behind):
+            name = path.split("::")[-1]
+            if name not in clauses and is_declared(code, name):
+                clauses = clauses_of(code, name)
             elif name not in clauses:
-                yield f"{crate} has no function or clause {name}"
+                yield f"{crate} has no function or clause {path}"
+
+
+# The clauses that README names.
+
+
+def readme_clause_faults():
+    text = text_of("README.md")
+    of_run = text[text.index("| clause |") : text.index("**The outcome.**")]
+    yield from clause_faults("`minerful_core`: `run` " + " ".join(re.findall(r"^\| (`\w+`) \|", of_run, re.MULTILINE)))
+    by_crate = re.findall(r"^\| `(\w+)` \| .* \| (.*) \|$", text[text.index("## Crate by crate") :], re.MULTILINE)
+    yield from (f"README lacks the crate {crate}" for crate in crates() if crate not in dict(by_crate))
+    for crate, named in by_crate:
+        yield from clause_faults(f"`{crate}`: {named}")
 
 
 def definition_faults():
@@ -122,8 +144,8 @@ def definition_faults():
 
 
 def main():
-    faults = [*refusal_faults(), *definition_faults()]
-    print("\n".join(faults) or f"{len(refusals())} refusals and all pointers of docs/DEFINITIONS.md are as in the code")
+    faults = [*refusal_faults(), *readme_clause_faults(), *definition_faults()]
+    print("\n".join(faults) or f"{len(refusals())} refusals, and all clauses and modules that are named, are as in the code")
     return int(bool(faults))
 
 

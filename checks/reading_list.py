@@ -22,7 +22,7 @@ TOP = "crates/minerful_core/src/program.rt"
 LIST = "docs/READING.md"
 
 IMPORT = re.compile(r"^(?:pub |ghost )*use Rattle\.(\w+)\.specs\.([\w.]*\w)(?:\.\{([^}]*)\})?", re.MULTILINE)
-DEFINED = re.compile(r"^ *(?:abbrev |unfoldable )pub ([^\s:(]+)|^ *pub (?:record|data) ([^\s:(]+)", re.MULTILINE)
+DEFINED = re.compile(r"^ *(?:abbrev |unfoldable )(?:pub )?([^\s:(]+)|^ *(?:pub )?(?:record|data) ([^\s:(]+)", re.MULTILINE)
 CONSTRUCTOR = re.compile(r"^ +(\w+) :", re.MULTILINE)
 WORD = re.compile(r"[\w◌>=+*.\-']+")
 ROW = re.compile(r"^\| `(crates/[^`]+)` \| (\d+) \| (\d+) \| (.*) \|$", re.MULTILINE)
@@ -57,7 +57,7 @@ class File:
         for place, paragraph in enumerate(self.paragraphs):
             for names in DEFINED.findall(paragraph):
                 self.defines[names[0] or names[1]] = place
-            if "pub data " in paragraph:
+            if re.search(r"^ *(?:pub )?data ", paragraph, re.MULTILINE):
                 self.defines |= {name: place for name in CONSTRUCTOR.findall(paragraph)}
 
     def reached_lines(self):

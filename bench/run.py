@@ -1,24 +1,32 @@
 #!/usr/bin/env python3
-"""Times the built program on logs made from seeds, and keeps the table in bench/RESULTS.md.
+"""Times built programs on logs made from seeds, side by side, and compares what they print.
 
-    python3 bench/run.py [--program PATH] [--folder PATH] [--repeat N] [--no-write]
+    python3 bench/run.py [PROGRAM ...] [--folder PATH] [--repeat N] [--only TABLE ...] [--write]
 
-The logs are made in the folder (about 160 MB, in /tmp by default) and used again by the next run. It needs
-/usr/bin/time, wc and tr. Each line gives the best of the repeated runs: seconds by the clock, seconds of
-processor time (user and system), the peak of memory, the status, and the refusal's line where there is one.
+Without a PROGRAM it's the one that is built here. The logs are made in the folder (about 130 MB, in /tmp by default) and
+used again by the next run. Each row has for each program the processor seconds of the child (user), the least of
+the repeated runs, and its peak memory in MB. The first run of each isn't timed: its status, its output and
+its line of refusal are compared with those of the first program. Where they differ the row says so, and the script ends
+with 1. A row that a program refuses as words it doesn't know isn't compared: an older program lacks a stage.
+
+It needs /usr/bin/time: the peak of a child is at least that of the process that starts it, and this one is small.
 """
 
 import argparse
 import datetime
+import hashlib
 import os
 import platform
 import random
 import subprocess
-import time
+import sys
+from dataclasses import dataclass
 
 HERE = os.path.dirname(os.path.abspath(__file__))
+BUILT = os.path.join(HERE, "..", "crates", "minerful", "out", "minerful")
 LETTERS = b"abcdefghijklmnopqrstuvwxyz"
-LIMIT = 120
+LIMIT = "300"
+USAGE = 2
 
 
 # The logs
@@ -101,32 +109,29 @@ def rare(path, seed, names, others):
 
 
 LOGS = {
-    "short-1m.txt": (letters, 1, 1_000_000, 1, 23),
-    "short-12m.txt": (letters, 2, 12_000_000, 1, 23),
-    "long-1m.txt": (letters, 3, 1_000_000, 1, 39),
-    "long-16m.txt": (letters, 4, 16_000_000, 1, 39),
-    "read-16m.txt": (letters, 4, 16_000_000, 1, 39, 26, b"\xff\n"),
-    "letters-1.txt": (letters, 11, 4_000_000, 1, 39, 1),
-    "letters-2.txt": (letters, 11, 4_000_000, 1, 39, 2),
-    "letters-5.txt": (letters, 11, 4_000_000, 1, 39, 5),
-    "letters-10.txt": (letters, 11, 4_000_000, 1, 39, 10),
-    "letters-26.txt": (letters, 11, 4_000_000, 1, 39, 26),
+    "1m-39.txt": (letters, 3, 1_000_000, 1, 39),
+    "16m-39.txt": (letters, 4, 16_000_000, 1, 39),
+    "1m-999.txt": (letters, 5, 1_000_000, 1, 999),
+    "16m-999.txt": (letters, 6, 16_000_000, 1, 999),
+    "read-16m-39.txt": (letters, 4, 16_000_000, 1, 39, 26, b"\xff\n"),
     "names-500.txt": (many_names, 5, 500, 2_000, 200),
+    "names-300.txt": (many_names, 7, 300, 80_000, 12),
     "line-1000.txt": (one_line, 0, 1_000, 1),
     "line-1000-50.txt": (one_line, 0, 1_000, 50),
     "line-1000-349.txt": (one_line, 0, 1_000, 349),
-    "letters-20.txt": (letters, 13, 3_250, 1, 12, 20),
-    "rare-12-100.txt": (rare, 14, 12, 100),
-    "rare-12-400.txt": (rare, 15, 12, 400),
-    "line-14.txt": (one_line, 0, 14, 1),
-    "line-15.txt": (one_line, 0, 15, 1),
-    "line-16.txt": (one_line, 0, 16, 1),
-    "records-100k.csv": (records, 6, 100_000, 8_330),
+    "letters-1.txt": (letters, 11, 4_000_000, 1, 39, 1),
+    "letters-5.txt": (letters, 11, 4_000_000, 1, 39, 5),
+    "letters-10.txt": (letters, 11, 4_000_000, 1, 39, 10),
     "records-1m.csv": (records, 7, 1_000_000, 83_330),
     "cases-1m.csv": (records, 12, 1_000_000, 1_000_000),
     "process-8.txt": (process, 8, 8, 2_000),
     "process-10.txt": (process, 9, 10, 2_000),
     "process-12.txt": (process, 10, 12, 2_000),
+    "process-15.txt": (process, 11, 15, 2_000),
+    "any-26.txt": (letters, 13, 3_250, 1, 12, 26),
+    "rare-12-100.txt": (rare, 14, 12, 100),
+    "line-15.txt": (one_line, 0, 15, 1),
+    "line-16.txt": (one_line, 0, 16, 1),
 }
 
 
@@ -139,41 +144,104 @@ def make(folder):
             os.rename(path + ".part", path)
 
 
-# Timing
+# The rows: a log, and the words of a command.
 
-class Run:
-    """One run of a program: its seconds, its peak of memory in MB, its status and its last line of refusal."""
-
-    def __init__(self, words, feed=None):
-        env = dict(os.environ, LC_ALL="C.UTF-8")
-        told = os.path.join(FOLDER, "told")
-        timed = ["timeout", str(LIMIT), "/usr/bin/time", "-q", "-o", told, "-f", "%M"] + words
-        began = time.perf_counter()
-        with open(feed or os.devnull, "rb") as given:
-            child = subprocess.Popen(timed, stdin=given, env=env, stdout=subprocess.DEVNULL, stderr=subprocess.PIPE)
-            self.line = child.stderr.read().decode().strip()
-            _, code, used = os.wait4(child.pid, 0)
-        self.seconds = time.perf_counter() - began
-        self.status = child.returncode = os.waitstatus_to_exitcode(code)
-        self.cpu = used.ru_utime + used.ru_stime
-        if self.status == 124:
-            self.peak, self.line = float("nan"), f"stopped after {LIMIT} s"
-        else:
-            with open(told, encoding="utf-8") as file:
-                self.peak = int(file.read().split()[-1]) / 1024
+SCORES = ["mine", "--stage", "scores"]
+CSV = ["--format", "csv"]
+BY_NUMBER = ["--order-column", "n", "--order-as", "number"]
 
 
-def best(repeat, words, feed=None):
-    first = Run(words, feed)
-    if first.seconds > 5:
-        return first
-    return min([first] + [Run(words, feed) for _ in range(repeat - 1)], key=lambda run: run.seconds)
+def thresholds(support, confidence, interest):
+    return ["--support", support, "--confidence", confidence, "--interest", interest]
 
 
-def rate(number, run):
-    """Millions a second of processor time, so that a busy machine changes little."""
-    return f"{number / max(run.cpu, 0.001) / 1e6:.1f}"
+DEFAULTS = thresholds("0.9", "0.25", "0.125")
+LOW = thresholds("0.5", "0", "0")
+ALWAYS = thresholds("1", "0", "0")
 
+
+def model_rows():
+    for stage in ["consistent", "model"]:
+        words = ["mine", "--stage", stage]
+        for count in [8, 10, 12, 15]:
+            for limits in [DEFAULTS, LOW]:
+                yield f"process-{count}.txt", words + limits
+        yield "any-26.txt", words + ALWAYS
+        for name in ["rare-12-100.txt", "line-15.txt", "line-16.txt"]:
+            yield name, words + DEFAULTS
+
+
+TABLES = {
+    "strings": [(f"{log}.txt", words) for log in ["1m-39", "16m-39", "1m-999", "16m-999"] for words in [["kb"], SCORES]],
+    "reading": [("read-16m-39.txt", ["kb"])],
+    "activities": [
+        *((f"letters-{count}.txt", ["kb"]) for count in [1, 5, 10]),
+        *((f"names-{count}.txt", words) for count in [300, 500] for words in [["kb"], SCORES]),
+        ("line-1000.txt", SCORES),
+        ("line-1000-50.txt", SCORES),
+        ("line-1000-349.txt", ["kb"]),
+    ],
+    "csv": [
+        ("records-1m.csv", ["kb", *CSV]),
+        ("records-1m.csv", [*SCORES, *CSV]),
+        ("records-1m.csv", [*SCORES, *CSV, *BY_NUMBER]),
+        ("cases-1m.csv", ["kb", *CSV]),
+    ],
+    "models": list(model_rows()),
+}
+
+TITLES = {
+    "strings": "String logs of 26 letters",
+    "reading": "Reading alone",
+    "activities": "By the number of activities",
+    "csv": "CSV logs",
+    "models": "Models",
+}
+
+
+# Runs
+
+ENVIRONMENT = dict(os.environ, LC_ALL="C.UTF-8")
+
+
+@dataclass
+class Printed:
+    """What a run ends with and prints: its status, its line of refusal, and the sum of its output."""
+
+    status: int
+    line: str
+    out: str
+
+
+def printed(words):
+    child = subprocess.Popen(["timeout", LIMIT, *words], env=ENVIRONMENT, stdout=subprocess.PIPE, stderr=subprocess.PIPE)
+    out = hashlib.sha256()
+    for piece in iter(lambda: child.stdout.read(1 << 20), b""):
+        out.update(piece)
+    line = child.stderr.read().decode().strip()
+    return Printed(child.wait(), line, out.hexdigest())
+
+
+def timed(words, folder):
+    """Processor seconds (user) of a run, and its peak of memory in MB."""
+    told = os.path.join(folder, "told")
+    measured = ["/usr/bin/time", "-q", "-o", told, "-f", "%M", *words]
+    null = subprocess.DEVNULL
+    child = subprocess.Popen(measured, env=ENVIRONMENT, stdin=null, stdout=null, stderr=null)
+    _, code, used = os.wait4(child.pid, 0)
+    child.returncode = os.waitstatus_to_exitcode(code)
+    with open(told, encoding="utf-8") as file:
+        return used.ru_utime, int(file.read().split()[-1]) / 1024
+
+
+def best(words, folder, repeat):
+    runs = [timed(words, folder)]
+    while len(runs) < repeat and runs[0][0] < 5:
+        runs.append(timed(words, folder))
+    return min(seconds for seconds, _ in runs), min(peak for _, peak in runs)
+
+
+# Tables
 
 def row(*cells):
     text = "| " + " | ".join(str(cell) for cell in cells) + " |"
@@ -181,164 +249,123 @@ def row(*cells):
     return text
 
 
-def cells(run):
-    return f"{run.seconds:.2f}", f"{run.cpu:.2f}", f"{run.peak:.0f}"
-
-
-def outcome(run):
-    return f"{run.status}" + (f" `{run.line}`" if run.line else "")
-
-
-def head(*names):
+def head(programs):
+    names = ["log", "command"]
+    for number in range(1, len(programs) + 1):
+        mark = f" {number}" if len(programs) > 1 else ""
+        names += [f"user s{mark}", f"peak MB{mark}"]
+    names += ["ends"] + ["the same"] * (len(programs) > 1)
     return [row(*names), row(*["---"] * len(names))]
 
 
-def strings(repeat):
-    lines = head("log", "events", "command", "seconds", "cpu s", "peak MB", "M events/cpu s",
-                 "bytes/event, or MB/cpu s", "status")
-    for name in ["short-1m.txt", "short-12m.txt", "long-1m.txt", "long-16m.txt"]:
-        path, events = os.path.join(FOLDER, name), LOGS[name][2]
-        size = os.path.getsize(path)
-        for command in [["mine", "--stage", "scores"], ["kb"]]:
-            run = best(repeat, [PROGRAM] + command + [path])
-            lines.append(row(name, events, " ".join(command), *cells(run), rate(events, run),
-                             f"{run.peak * 1048576 / events:.1f}", outcome(run)))
-        for words, feed in [(["wc", "-m", path], None), (["tr", "a-z", "b-za"], path)]:
-            run = best(repeat, words, feed)
-            lines.append(row(name, events, "`" + " ".join(words[:3] if feed else words[:2]) + "`", *cells(run),
-                             rate(events, run), f"{rate(size, run)} MB/cpu s", run.status))
-    return lines
+def outcome(result):
+    return f"{result.status}" + (f" `{result.line}`" if result.line else "")
 
 
-def alphabets(repeat):
-    lines = head("log", "events", "letters", "command", "seconds", "cpu s", "M events/cpu s", "status")
-    for name in ["letters-1.txt", "letters-2.txt", "letters-5.txt", "letters-10.txt", "letters-26.txt", "read-16m.txt"]:
-        events, letters_seen = LOGS[name][2], LOGS[name][5]
-        run = best(repeat, [PROGRAM, "kb", os.path.join(FOLDER, name)])
-        lines.append(row(name, events, letters_seen, "kb", *cells(run)[:2], rate(events, run), outcome(run)))
-    return lines
+def compared(results):
+    """Whether all that know the words print the same."""
+    known = [result for result in results if result.status != USAGE]
+    if len(known) < 2:
+        return "not compared"
+    return "yes" if all(result == known[0] for result in known) else "NO"
 
 
-def csv(repeat):
-    lines = head("log", "events", "command", "seconds", "cpu s", "peak MB", "M events/cpu s", "status")
-    reader = "import csv,sys\nfor record in csv.reader(open(sys.argv[1], newline='', encoding='utf-8')): pass"
-    group = ("import csv,sys\ncases={}\nfor r in csv.reader(open(sys.argv[1], newline='', encoding='utf-8')):"
-             " cases.setdefault(r[0],[]).append(r[1])")
-    for name in ["records-100k.csv", "records-1m.csv", "cases-1m.csv"]:
-        path, events = os.path.join(FOLDER, name), LOGS[name][2]
-        columns = ["--format", "csv"]
-        for command in [["mine", "--stage", "scores"] + columns,
-                        ["mine", "--stage", "scores"] + columns + ["--order-column", "n", "--order-as", "number"],
-                        ["kb"] + columns]:
-            run = best(repeat, [PROGRAM] + command + [path])
-            lines.append(row(name, events, " ".join(command), *cells(run), rate(events, run), outcome(run)))
-        for told, text in [("python3 csv.reader, records read", reader), ("the same, put by their case", group)]:
-            run = best(repeat, ["python3", "-c", text, path])
-            lines.append(row(name, events, told, *cells(run), rate(events, run), run.status))
-    return lines
-
-
-def wide(repeat):
-    lines = head("log", "events", "command", "seconds", "cpu s", "peak MB", "status")
-    for name, events, command in [("names-500.txt", 400_000, ["kb"]),
-                                  ("line-1000.txt", 1_000, ["mine", "--stage", "scores"]),
-                                  ("line-1000-50.txt", 50_000, ["mine", "--stage", "scores"]),
-                                  ("line-1000-349.txt", 349_000, ["kb"])]:
-        run = best(repeat, [PROGRAM] + command + [os.path.join(FOLDER, name)])
-        lines.append(row(name, events, " ".join(command), *cells(run), outcome(run)))
-    return lines
-
-
-def least_power(command, path):
-    """The least power of two that is taken as the number of states."""
-    low, high = 0, 17
-    while low < high:
-        middle = (low + high) // 2
-        if Run(command + ["--max-states", str(2 ** middle), path]).status == 0:
-            high = middle
+def measured_row(programs, name, words, given):
+    path = os.path.join(given.folder, name)
+    results = [printed([program, *words, path]) for program in programs]
+    cells = []
+    for program, result in zip(programs, results):
+        if result.status in (USAGE, 124):
+            cells += ["-", "-"]
         else:
-            low = middle + 1
-    return f"{2 ** low}" if low < 17 else "none"
+            seconds, peak = best([program, *words, path], given.folder, given.repeat)
+            cells += [f"{seconds:.3f}", f"{peak:.1f}"]
+    same = [compared(results)] if len(programs) > 1 else []
+    return row(name, " ".join(words), *cells, outcome(results[-1]), *same), "NO" not in same
 
 
-def consistent(repeat):
-    lines = head("log", "activities", "thresholds", "seconds", "cpu s", "peak MB", "status at 16384",
-                 "least power of two taken", "at 65536: seconds, MB, status")
-    for name in ["process-8.txt", "process-10.txt", "process-12.txt", "line-14.txt", "line-15.txt", "line-16.txt",
-                 "rare-12-100.txt", "rare-12-400.txt", "letters-20.txt"]:
-        path = os.path.join(FOLDER, name)
-        sets = [("0.9", "0.25", "0.125")]
-        if name.startswith("process"):
-            sets.append(("0.5", "0", "0"))
-        if name.startswith("letters"):
-            sets.append(("0.9", "0", "0"))
-        for thresholds in sets:
-            command = [PROGRAM, "mine", "--stage", "consistent"]
-            for option, value in zip(["--support", "--confidence", "--interest"], thresholds):
-                command += [option, value]
-            run = best(repeat, command + [path])
-            more = Run(command + ["--max-states", "65536", path]) if run.status else run
-            power = least_power(command, path) if more.status == 0 else "above 65536"
-            activities = {"letters": LOGS[name][-1], "rare": sum(LOGS[name][2:])}.get(name.split("-")[0], LOGS[name][2])
-            lines.append(row(name, activities, " ".join(thresholds), *cells(run), outcome(run), power,
-                             f"{more.seconds:.2f}, {more.peak:.0f}, {outcome(more)}"))
-    return lines
+def known_rows(programs, rows):
+    """The rows whose stage some program knows."""
+    stages = {}
+    for name, words in rows:
+        stage = tuple(words[:3])
+        if stage not in stages:
+            stages[stage] = any(printed([program, *words, os.devnull]).status != USAGE for program in programs)
+        if stages[stage]:
+            yield name, words
 
+
+def tables(programs, given):
+    lines, all_same = [], True
+    for table in given.only:
+        print(f"\n{TITLES[table]}", flush=True)
+        lines += ["", f"## {TITLES[table]}", "", *head(programs)]
+        for name, words in known_rows(programs, TABLES[table]):
+            text, same = measured_row(programs, name, words, given)
+            lines.append(text)
+            all_same = all_same and same
+    return lines, all_same
+
+
+# The page
 
 def machine():
-    name = platform.processor()
     with open("/proc/cpuinfo", encoding="utf-8") as file:
         for line in file:
             if line.startswith("model name"):
-                name = line.split(":", 1)[1].strip()
-                break
-    return name
+                return line.split(":", 1)[1].strip()
+    return platform.processor()
+
+
+def load():
+    return ", ".join(f"{number:.1f}" for number in os.getloadavg())
+
+
+NOTES = """- Seconds are processor seconds of the program (user), the least of the runs; MB are its peak memory.
+- N-M.txt: so many events in 26 letters, in traces of evenly spread lengths up to M. read-16m-39.txt is 16m-39.txt with a
+  last line that isn't UTF-8: it's read to its end, counted, and then refused.
+- names-N.txt: so many characters, in 80,000 traces of 12 (300) and 2,000 traces of 200 (500). letters-N.txt: 4,000,000 events in
+  so many letters, in traces up to 39.
+- line-N.txt: one trace of N different characters; line-N-M.txt: the same characters M times over in one trace.
+- records-1m.csv: 1,000,000 records of 83,330 mixed cases; cases-1m.csv: a case for each record.
+- process-N.txt: 2,000 traces of a process of N activities with a loop, a choice and two parallel branches, some of which have
+  lost an event. any-26.txt: 26 letters without any order, in traces up to 12. rare-12-100.txt: 12 steps in a row, and 100
+  further activities that each come once."""
+
+
+def page(lines, given, began, load_before):
+    return "\n".join([
+        "# The last tables of bench/run.py", "",
+        f"Written by the script, {began:%Y-%m-%d %H:%M} UTC, best of {given.repeat} runs (a run above 5 seconds once).", "",
+        f"- Processor: {machine()}, {os.cpu_count()} of them seen; {platform.system()} {platform.release()}.",
+        f"- Load average of 1, 5 and 15 minutes at the start: {load_before}; at the end: {load()}.",
+        NOTES, *lines, "",
+    ])
+
+
+def options():
+    words = argparse.ArgumentParser(description=__doc__, formatter_class=argparse.RawDescriptionHelpFormatter)
+    words.add_argument("programs", nargs="*", metavar="PROGRAM")
+    words.add_argument("--folder", default="/tmp/minerful-bench")
+    words.add_argument("--repeat", type=int, default=3)
+    words.add_argument("--only", nargs="+", choices=list(TABLES), default=list(TABLES))
+    words.add_argument("--write", action="store_true", help="keep the tables in bench/RESULTS.md")
+    return words.parse_args()
 
 
 def main():
-    global PROGRAM, FOLDER
-    words = argparse.ArgumentParser(description=__doc__, formatter_class=argparse.RawDescriptionHelpFormatter)
-    words.add_argument("--program", default=os.path.join(HERE, "..", "crates", "minerful", "out", "minerful"))
-    words.add_argument("--folder", default="/tmp/minerful-bench")
-    words.add_argument("--repeat", type=int, default=3)
-    words.add_argument("--no-write", action="store_true")
-    given = words.parse_args()
-    PROGRAM, FOLDER = os.path.abspath(given.program), given.folder
-    make(FOLDER)
-    load = os.getloadavg()
-    began = datetime.datetime.now(datetime.timezone.utc)
-    parts = [("String logs", strings),
-             ("The counters by the number of letters, and reading alone", alphabets), ("CSV logs", csv),
-             ("Many activities", wide),
-             ("Conflicts removed: mine --stage consistent", consistent)]
-    tables = []
-    for title, part in parts:
-        print("\n" + title, flush=True)
-        tables += ["", f"## {title}", ""] + part(given.repeat)
-    after = os.getloadavg()
-    text = [
-        "# The last table of bench/run.py", "",
-        f"Written by the script; run on {began:%Y-%m-%d %H:%M} UTC, best of {given.repeat} runs"
-        " (a run above 5 seconds once).", "",
-        f"- Processor: {machine()}, {os.cpu_count()} of them seen; {platform.system()} {platform.release()}.",
-        f"- Load average of 1, 5 and 15 minutes at the start: {load[0]:.1f}, {load[1]:.1f}, {load[2]:.1f}; at the end:"
-        f" {after[0]:.1f}, {after[1]:.1f}, {after[2]:.1f}."
-        + (" **The machine was loaded by other work**: take the processor time (cpu s), and read seconds by the"
-           " clock as upper bounds." if load[0] > 1 else ""),
-        "- `M events/cpu s` is millions of events a second of processor time; `wc -m` and `tr` ran with"
-        " LC_ALL=C.UTF-8.",
-        "- read-16m.txt is long-16m.txt with a last line that isn't UTF-8: it's read to its end and then refused, so"
-        " its row is reading without counting.",
-        "- line-N.txt: one trace of N different characters; line-N-M.txt: the same characters M times over in one"
-        " trace. process-N.txt: 2,000 traces of a process of N activities.",
-        "- letters-20.txt: letters without any order, 20 of them, in traces of 1 to 12 events: no process at all.",
-        "- rare-N-M.txt: N steps in a row, and M further activities that each come once.",
-        "- short: traces of 1 to 23 events, 12 on average; long: 1 to 39 events, 20 on average.",
-    ] + tables + [""]
-    if not given.no_write:
+    given = options()
+    programs = [os.path.abspath(program) for program in given.programs or [BUILT]]
+    make(given.folder)
+    began, load_before = datetime.datetime.now(datetime.timezone.utc), load()
+    for number, program in enumerate(programs, 1):
+        print(f"{number}: {program}")
+    lines, all_same = tables(programs, given)
+    if given.write:
         with open(os.path.join(HERE, "RESULTS.md"), "w", encoding="utf-8") as file:
-            file.write("\n".join(text))
+            file.write(page(lines, given, began, load_before))
+    return int(not all_same)
 
 
 if __name__ == "__main__":
-    main()
+    sys.exit(main())

@@ -1,364 +1,231 @@
-"""Compares what the built program prints with the definitions, computed the long way.
+"""Compares what the built program does with the definitions, computed the long way.
 
-Small random logs are made from a seed. Each report and table is computed here from docs/DEFINITIONS.md alone: by
-places of traces, by counts over whole logs, and by trying all short traces. Nothing is taken from the code.
+    python3 checks/by_definition.py [--program PATH] [--logs N] [--seed N] [--model] [--no-limits] [--traces N]
 
-    python3 checks/by_definition.py [--program PATH] [--logs N] [--seed N] [--longest N]
+For each run the definitions give its exit status, its standard output and its standard error, and each of the three
+is compared by itself. The definitions stand in checks/defined, once more and in Python: by places of traces, by counts
+over whole logs, and by trying all short traces. Nothing is taken from the program's code. The runs stand in
+checks/cases.py. At the end it says how many runs tried what, how often each refusal came, and what was not tried.
 
-Ends with 0 where all outputs are the same, and with 1 at the first that differs, which it prints.
+Ends with 0 where all runs are as defined, and with 1 at the first that is not, which it prints. It needs Linux, for
+inputs that are cut or fail, and prlimit, for outputs that fail.
 """
 
 import argparse
-import csv
-import io
-import itertools
-import json
+import contextlib
+import os
 import random
+import socket
 import subprocess
 import sys
-from fractions import Fraction
-from functools import partial
+import tempfile
+import threading
+from collections import Counter
 
-EXISTENCE = ["Init", "End", "Participation", "AtMostOne"]
-MUTUAL = ["ChainSuccession", "AlternateSuccession", "Succession", "CoExistence"]
-RESPONSES = ["ChainResponse", "AlternateResponse", "Response"]
-PRECEDENCES = ["ChainPrecedence", "AlternatePrecedence", "Precedence"]
-RELATION = RESPONSES + PRECEDENCES + ["RespondedExistence"]
-NEGATIVE = ["NotCoExistence", "NotSuccession", "NotChainSuccession"]
-TEMPLATES = EXISTENCE + MUTUAL + RELATION + NEGATIVE
-ONE_ORDER = ["CoExistence", "NotCoExistence"]
+import cases
+from defined.outcome import Definitions, Input, Outcome
+from defined.refusals import STATUSES, Refused
 
+NOT_TRIED = """Not tried: out of memory (status 8); files that fail behind their first byte; numbers of activities, traces and
+events between the small ones and the limits; many activities where constraints are dropped."""
 
-# Activated and fulfilled places, row by row of the table.
+NO_TEXT = "words that are no text"
 
 
-def whole(template, trace, a):
-    """Whether the place of the whole trace is fulfilled."""
-    return {
-        "Init": trace[:1] == a,
-        "End": trace[-1:] == a,
-        "Participation": a in trace,
-        "AtMostOne": trace.count(a) <= 1,
-    }[template]
+# What is wanted
 
 
-def later_without(trace, i, target, barred):
-    """Whether some event after place i is the target, with no barred one between."""
-    return any(
-        trace[j] == target and barred not in trace[i + 1 : j]
-        for j in range(i + 1, len(trace))
-    )
+def reader(case):
+    """Reads an input as the case has it: a name that isn't a file of the case can't be read."""
+    files = {name.removeprefix("./"): data for name, data in case.files.items()}
+
+    def read(name):
+        if name == "-":
+            return Input(case.stdin, case.fails)
+        data = files.get(name.removeprefix("./"))
+        return None if data is None else Input(data)
+
+    return read
 
 
-def earlier_without(trace, i, target, barred):
-    """Whether some event before place i is the target, with no barred one between."""
-    return any(trace[j] == target and barred not in trace[j + 1 : i] for j in range(i))
+def is_text(word):
+    return isinstance(word, str) or word.decode("utf-8", "ignore").encode() == word
 
 
-def at_first(kind, trace, i, a, b):
-    """What a template of this kind asks at an a: the response's side."""
-    return {
-        "Chain": trace[i + 1 : i + 2] == b,
-        "Alternate": later_without(trace, i, b, a),
-        "": b in trace[i + 1 :],
-        "Co": b in trace,
-    }[kind]
+def wanted(definitions, case):
+    if not all(map(is_text, case.words)):
+        return Outcome(9, b"", b"", NO_TEXT)
+    outcome = definitions.outcome([os.fsdecode(word) for word in case.words], reader(case))
+    if case.short == "out" and len(outcome.out) > case.room:
+        fault = Refused("WriteFault")
+        return Outcome(fault.status, outcome.out, fault.line, fault.told)
+    return outcome
 
 
-def at_second(kind, trace, i, a, b):
-    """What a template of this kind asks at a b: the precedence's side."""
-    return {
-        "Chain": i > 0 and trace[i - 1] == a,
-        "Alternate": earlier_without(trace, i, a, b),
-        "": a in trace[:i],
-        "Co": a in trace,
-    }[kind]
+# What the program does
 
 
-def kind_of(template):
-    for kind in ["Chain", "Alternate"]:
-        if template.removeprefix("Not").startswith(kind):
-            return kind
-    return "Co" if "Existence" in template else ""
-
-
-def places(template, trace, a, b):
-    """For each activated place whether it is fulfilled."""
-    if template in EXISTENCE:
-        return [whole(template, trace, a)]
-    kind = kind_of(template)
-    negated = template in NEGATIVE
-    found = []
-    for i, event in enumerate(trace):
-        if event == a and template not in PRECEDENCES:
-            found.append(at_first(kind, trace, i, a, b) != negated)
-        if event == b and template in PRECEDENCES + MUTUAL + NEGATIVE:
-            found.append(at_second(kind, trace, i, a, b) != negated)
-    return found
-
-
-def keeps(trace, constraint):
-    return all(places(constraint[0], trace, constraint[1], constraint[2]))
-
-
-# Scores and candidates.
-
-
-def traces_with(log, *activities):
-    return sum(any(activity in trace for activity in activities) for trace in log)
-
-
-def numbers_for_traces(template, log, a, b):
-    """T and P: the traces that count for confidence, and for interest too."""
-    if template in EXISTENCE:
-        return len(log), traces_with(log, a)
-    if template in PRECEDENCES:
-        return traces_with(log, b), traces_with(log, a)
-    if template in RELATION:
-        return traces_with(log, a), traces_with(log, b)
-    return traces_with(log, a, b), min(traces_with(log, a), traces_with(log, b))
-
-
-def scores(log, template, a, b):
-    found = [place for trace in log for place in places(template, trace, a, b)]
-    t, p = numbers_for_traces(template, log, a, b)
-    support = Fraction(sum(found), len(found)) if found else Fraction(0)
-    confidence = support * Fraction(t, len(log))
-    return support, confidence, confidence * Fraction(p, len(log))
-
-
-def constraints_over(alphabet):
-    for template in TEMPLATES:
-        if template in EXISTENCE:
-            yield from ((template, a, "") for a in alphabet)
+def write_files(folder, files):
+    for name, data in files.items():
+        path = os.path.join(folder, name)
+        if data is None:
+            os.mkdir(path)
         else:
-            for a, b in itertools.permutations(alphabet, 2):
-                if a < b or template not in ONE_ORDER:
-                    yield template, a, b
+            with open(path, "wb") as file:
+                file.write(data)
 
 
-def candidates(log, alphabet, thresholds):
-    scored = [(scores(log, *c), c) for c in constraints_over(alphabet)]
-    reached = [(s, c) for s, c in scored if all(x >= y for x, y in zip(s, thresholds))]
-    return sorted(
-        reached,
-        key=lambda sc: ([-x for x in sc[0]], TEMPLATES.index(sc[1][0]), sc[1][1:]),
-    )
+def send_in_pieces(end, data, size):
+    """Each message is a read. The program may leave before the last."""
+    with end, contextlib.suppress(OSError):
+        for at in range(0, len(data), size):
+            end.send(data[at : at + size])
 
 
-# Reports.
+def cut_input(case):
+    """A standard input that gives so many bytes a read at most."""
+    ours, theirs = socket.socketpair(socket.AF_UNIX, socket.SOCK_SEQPACKET)
+    threading.Thread(target=send_in_pieces, args=(ours, case.stdin, case.per_read), daemon=True).start()
+    return theirs
 
 
-def fraction_value(fraction):
-    return [fraction.numerator, fraction.denominator]
+def failing_input(case):
+    """A standard input that is reset behind its bytes: its other end is closed while something for it is unread."""
+    ours, theirs = socket.socketpair()
+    theirs.send(b"unread")
+    ours.sendall(case.stdin)
+    ours.close()
+    return theirs
 
 
-def value_of(scored):
-    (support, confidence, interest), (template, a, b) = scored
-    return {
-        "confidence": fraction_value(confidence),
-        "interest": fraction_value(interest),
-        "parameters": [[a], [b]] if b else [[a]],
-        "support": fraction_value(support),
-        "template": template,
-    }
+def input_of(case, folder):
+    if case.fails:
+        return failing_input(case)
+    if case.per_read:
+        return cut_input(case)
+    path = os.path.join(folder, "standard input")
+    write_files(folder, {"standard input": case.stdin})
+    return open(path, "rb")
 
 
-def all_traces(alphabet, longest):
-    """The traces of at most this length, in shortlex order."""
-    for length in range(longest + 1):
-        for letters in itertools.product(alphabet, repeat=length):
-            yield "".join(letters)
+def run(program, case):
+    """Its status, and what stands on both outputs. An output with little room is a file of limited length."""
+    with tempfile.TemporaryDirectory() as folder, tempfile.TemporaryDirectory() as beside:
+        write_files(folder, case.files)
+        paths = {name: os.path.join(beside, name) for name in ["out", "err"]}
+        with input_of(case, beside) as stdin, open(paths["out"], "wb") as out, open(paths["err"], "wb") as err:
+            limit = [] if not case.short else ["prlimit", f"--fsize={case.room}", "--"]
+            ends = {"out": out, "err": err}
+            pipe = {"out": "err", "err": "out"}.get(case.short)
+            ends |= {pipe: subprocess.PIPE} if pipe else {}
+            done = subprocess.run(
+                [*limit, program, *case.words],
+                stdin=stdin,
+                stdout=ends["out"],
+                stderr=ends["err"],
+                cwd=folder,
+                # A write beyond the length fails, and doesn't end the program.
+                restore_signals=not case.short,
+                check=False,
+            )
+        piped = {"out": done.stdout, "err": done.stderr}
+        found = {name: read_file(path) if piped[name] is None else piped[name] for name, path in paths.items()}
+    return {"status": done.returncode, **found}
 
 
-def sift(scored, alphabet, longest):
-    """Of each candidate the traces of at most this length that keep the list with it, or none, and those at the end."""
-    traces = list(all_traces(alphabet, longest))
-    found = []
-    for _, constraint in scored:
-        left = [trace for trace in traces if keeps(trace, constraint)]
-        found.append(left)
-        traces = left or traces
-    return found, traces
+def read_file(path):
+    with open(path, "rb") as file:
+        return file.read()
 
 
-def told_apart(members, words):
-    """How many of the words are told apart by continuations among the words."""
-    return len({tuple(word + after in members for after in words) for word in words})
+# The comparison
 
 
-def states_line(log, thresholds, states, half):
-    """The refusal of the first kept list that tells more than so many short traces apart, or nothing."""
-    alphabet = sorted(set("".join(log)))
-    words = list(all_traces(alphabet, half))
-    found, _ = sift(candidates(log, alphabet, thresholds), alphabet, 2 * half)
-    for length, traces in enumerate(filter(None, found), 1):
-        if told_apart(set(traces), words) > states:
-            return f"minerful: too many states, phase 1, constraints {length}\n"
-    return ""
+def is_as_wanted(part, found, outcome, case):
+    """The same; of an output that fails, a prefix."""
+    whole = getattr(outcome, part)
+    if part == case.short and len(whole) > case.room:
+        return whole.startswith(found)
+    return found == whole
 
 
-def report(log, stage, thresholds, longest):
-    alphabet = sorted(set("".join(log)))
-    scored = candidates(log, alphabet, thresholds)
-    value = {
-        "constraints": [value_of(s) for s in scored],
-        "events": sum(map(len, log)),
-        "tasks": alphabet,
-        "traces": len(log),
-    }
-    if stage == "consistent":
-        found, traces = sift(scored, alphabet, longest)
-        values = list(zip(value["constraints"], found))
-        value["constraints"] = [v for v, left in values if left]
-        value["dropped"] = [v | {"why": "conflict"} for v, left in values if not left]
-        value["example"] = list(traces[0])
-    return json.dumps(value, sort_keys=True, separators=(",", ":")) + "\n"
+def differences(found, outcome, case):
+    """Which of the three parts differ."""
+    return [part for part in ["status", "out", "err"] if not is_as_wanted(part, found[part], outcome, case)]
 
 
-# The table of the counters.
+def shown(value):
+    text = value.decode("utf-8", "backslashreplace") if isinstance(value, bytes) else str(value)
+    return text if len(text) < 4000 else f"{text[:4000]}... ({len(text)} characters)"
 
 
-def nearest_later(trace, i, b):
-    return next((j for j in range(i + 1, len(trace)) if trace[j] == b), None)
+def show(case, found, outcome, parts):
+    print(f"differs in {', '.join(parts)}: {case.tries}: {case.words}")
+    print(f"standard input: {case.stdin[:400]!r}, a read: {case.per_read or 'all'}, fails: {case.fails}")
+    print(f"files: {sorted(case.files)}, room: {f'{case.short} {case.room}' if case.short else 'all'}")
+    for part in parts:
+        print(f"--- {part} printed:\n{shown(found[part])}\n--- {part} wanted:\n{shown(getattr(outcome, part))}")
 
 
-def pair_counters(log, a, b):
-    total = [0] * 8
-    for trace in log:
-        back = trace[::-1]
-        total[7] += a in trace and b in trace
-        for i in (i for i, event in enumerate(trace) if event == a):
-            later = nearest_later(trace, i, b)
-            mirror = len(trace) - 1 - i
-            earlier = nearest_later(back, mirror, b)
-            total[0] += b not in trace
-            total[1] += later is None
-            total[2] += earlier is None
-            total[3] += later == i + 1
-            total[4] += earlier == mirror + 1
-            total[5] += later is not None and a in trace[i + 1 : later]
-            total[6] += earlier is not None and a in back[mirror + 1 : earlier]
-    return total
+def all_cases(given, stages):
+    chance = random.Random(given.seed)
+    yield from cases.by_hand(stages)
+    for number in range(given.logs):
+        yield from cases.at_random(chance, stages, number)
+    if given.limits:
+        yield from cases.limits(chance, stages)
 
 
-def line(cells, names):
-    return "".join(f"{cell:>12} " for cell in cells) + names + "\n"
+def print_counts(title, counts):
+    print(title)
+    for name, count in counts.items():
+        print(f"{count:>8}  {name}")
 
 
-def table(log):
-    alphabet = sorted(set("".join(log)))
-    text = f"traces {len(log)}\n"
-    text += line(["occurrences", "traces", "repeated", "first", "last"], "activity")
-    for a in alphabet:
-        counts = [trace.count(a) for trace in log]
-        unary = [sum(counts), sum(n > 0 for n in counts), sum(n > 1 for n in counts)]
-        ends = [sum(t[:1] == a for t in log), sum(t[-1:] == a for t in log)]
-        text += line(unary + ends, json.dumps(a))
-    heads = "without no_later no_earlier next previous rep_later rep_earlier together"
-    text += line(heads.split(), "pair")
-    for a, b in itertools.permutations(alphabet, 2):
-        text += line(pair_counters(log, a, b), f"{json.dumps(a)} {json.dumps(b)}")
-    return text
+def refusal_names(definitions):
+    phases = range(1, 5 if "model" in definitions.stages else 2)
+    return [name for name in STATUSES if name != "States"] + [f"States, phase {phase}" for phase in phases] + [NO_TEXT]
 
 
-# Logs, and runs of the program.
+def summary(definitions, tried, refused):
+    print_counts("Runs that were as defined:", tried)
+    print_counts("Refusals among them:", {name: refused[name] for name in refusal_names(definitions)})
+    found, none, undecided = (sum(getattr(s, part) for s in definitions.counted) for part in ["found", "none", "undecided"])
+    print("Searches for the least trace that keeps a list, and breaks one constraint where one is given:")
+    print(f"{found:>8}  found by trying all traces up to a length, and by an automaton the same")
+    print(f"{none - undecided:>8}  where both find none, and traces of that length reach all that can be reached")
+    print(f"{undecided:>8}  decided by the automaton alone, since longer traces would have to be tried")
+    print(NOT_TRIED)
+    print(f"{sum(tried.values())} runs, no difference")
 
 
-def random_log(chance):
-    letters = "abcd"[: chance.randint(1, 4)]
-    shapes = ["".join(chance.choices(letters, k=chance.randint(1, 5))) for _ in range(2)]
-    log = []
-    for _ in range(chance.randint(1, 6)):
-        trace = list(chance.choice(shapes))
-        if chance.random() < 0.5:
-            trace[chance.randrange(len(trace))] = chance.choice(letters)
-        log.append("".join(trace))
-    return log
-
-
-def as_csv(log, chance):
-    """The log as CSV, its records mixed up, with a column of numbers that orders them."""
-    rows = [(n, place, event) for n, trace in enumerate(log) for place, event in enumerate(trace)]
-    firsts = [row for row in rows if row[1] == 0]
-    others = [row for row in rows if row[1] != 0]
-    chance.shuffle(others)
-    text = io.StringIO()
-    writer = csv.writer(text, lineterminator="\n")
-    writer.writerow(["when", "case", "activity"])
-    writer.writerows((place - 3, f"case {n}", event) for n, place, event in firsts + others)
-    return text.getvalue()
-
-
-def printed(program, words, text):
-    run = subprocess.run([program, *words], input=text.encode(), capture_output=True, check=False)
-    return (run.stdout + run.stderr).decode()
-
-
-def random_thresholds(chance):
-    return [Fraction(chance.randint(0, 20), 20) for _ in range(3)]
-
-
-def threshold_words(thresholds):
-    names = ["--support", "--confidence", "--interest"]
-    return [word for name, x in zip(names, thresholds) for word in (name, f"{float(x):g}")]
-
-
-def runs_of_states(log, chance):
-    """A run with few states, on a log of at most two activities, of which traces of ten events are tried."""
-    thresholds = random_thresholds(chance)
-    states = chance.randint(1, 12)
-    words = ["mine", "--stage", "consistent", "--max-states", str(states)]
-    text = "".join(trace + "\n" for trace in log)
-    refused = states_line(log, thresholds, states, 5)
-    wanted = partial(report, log, "consistent", thresholds)
-    yield words + threshold_words(thresholds), text, lambda longest: refused or wanted(longest)
-
-
-def runs_on(log, chance):
-    """Words and input of each run on a log, and its wanted output, which takes the length of the longest trace tried."""
-    text = "".join(trace + "\n" for trace in log)
-    by_order = ["--format", "csv", "--order-column", "when", "--order-as", "number"]
-    yield ["kb"], text, lambda longest: table(log)
-    yield ["kb", *by_order], as_csv(log, chance), lambda longest: table(log)
-    for stage in ["scores", "consistent"]:
-        thresholds = random_thresholds(chance)
-        words = ["mine", "--stage", stage, *threshold_words(thresholds)]
-        wanted = partial(report, log, stage, thresholds)
-        yield words, text, wanted
-        yield words + by_order, as_csv(log, chance), wanted
-    if len(set("".join(log))) <= 2:
-        yield from runs_of_states(log, chance)
-
-
-def example_length(text):
-    """The length of a printed example. Traces of that length are tried, so that what stays has its trace among them."""
-    if not text.startswith("{"):
-        return 0
-    return len(json.loads(text).get("example", []))
+def options():
+    words = argparse.ArgumentParser(description=__doc__.splitlines()[0])
+    words.add_argument("--program", default="crates/minerful/out/minerful")
+    words.add_argument("--logs", type=int, default=100, help="so many rounds of random cases")
+    words.add_argument("--seed", type=int, default=1)
+    words.add_argument("--model", action="store_true", help="the program has stage `model`, as the default")
+    words.add_argument("--no-limits", dest="limits", action="store_false", help="leave out the large inputs")
+    words.add_argument("--traces", type=int, default=10_000, help="at most so many traces are tried for one search")
+    return words.parse_args()
 
 
 def main():
-    options = argparse.ArgumentParser(description=__doc__.splitlines()[0])
-    options.add_argument("--program", default="crates/minerful/out/minerful")
-    options.add_argument("--logs", type=int, default=100)
-    options.add_argument("--seed", type=int, default=1)
-    options.add_argument("--longest", type=int, default=6, help="traces of this length are tried")
-    given = options.parse_args()
-    chance = random.Random(given.seed)
-    count = dropped = refused = 0
-    for _ in range(given.logs):
-        log = random_log(chance)
-        for words, text, want in runs_on(log, chance):
-            found = printed(given.program, words, text)
-            wanted = want(max(given.longest, example_length(found)))
-            if found != wanted:
-                print(f"differs: {words}\n{text}\nprinted: {found}\nwanted:  {wanted}")
-                return 1
-            count += 1
-            dropped += wanted.count('"why":"conflict"')
-            refused += wanted.startswith("minerful: ")
-    print(f"{count} runs are as the definitions say, with {dropped} conflicts and {refused} refusals")
+    given = options()
+    stages = ["scores", "consistent"] + ["model"] * given.model
+    definitions = Definitions(stages, "model" if given.model else "scores", given.traces)
+    program = os.path.abspath(given.program)
+    tried, refused = Counter(), Counter()
+    for case in all_cases(given, stages):
+        outcome = wanted(definitions, case)
+        found = run(program, case)
+        parts = differences(found, outcome, case)
+        if parts:
+            show(case, found, outcome, parts)
+            return 1
+        tried[case.tries] += 1
+        refused[outcome.refusal] += 1
+    summary(definitions, tried, refused)
     return 0
 
 

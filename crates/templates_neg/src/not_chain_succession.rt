@@ -1,4 +1,4 @@
-use template_core::{Class, Counts, Template};
+use template_core::{Class, Counts, Kind, Template, number_of};
 
 /// No b stands directly after an a.
 pub struct NotChainSuccession;
@@ -9,7 +9,8 @@ impl Template for NotChainSuccession {
     ghost use Rattle.template_core.specs.declared.kind.Kind.TheVariants.{NotChainSuccession as the_kind};
     ghost use Rattle.template_core.proofs.Parts.{each_of_both, each_not_chained};
     ghost use Rattle.template_core.proofs.Runs.{apart};
-    ghost use Rattle.templates_neg.specs.NotChainSuccession.{next_after, accepts, kept};
+    ghost use Rattle.templates_neg.specs.NotChainSuccession.{next_after, accepts};
+    ghost use Rattle.templates_neg.specs.NotChainSuccessionLaw.{kept};
 
     ghost ARITY = { 2 };
 
@@ -40,7 +41,7 @@ impl Template for NotChainSuccession {
     ghost counts_fulfilled = { λ used a b log differ. each_not_chained nat_eq a b (apart a b differ) log };
 
     fn number() -> u8 {
-        18
+        number_of(Kind::NotChainSuccession)
     }
 
     fn states() -> u8 {

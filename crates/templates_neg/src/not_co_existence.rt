@@ -1,4 +1,4 @@
-use template_core::{Class, Counts, Template};
+use template_core::{Class, Counts, Kind, Template, number_of};
 
 /// No trace has both.
 pub struct NotCoExistence;
@@ -11,7 +11,8 @@ impl Template for NotCoExistence {
     ghost use Rattle.template_core.specs.Tests.{has};
     ghost use Rattle.template_core.proofs.Parts.{each_of_both, at_first_sum};
     ghost use Rattle.template_core.proofs.Runs.{apart};
-    ghost use Rattle.templates_neg.specs.NotCoExistence.{next_after, accepts, kept};
+    ghost use Rattle.templates_neg.specs.NotCoExistence.{next_after, accepts};
+    ghost use Rattle.templates_neg.specs.NotCoExistenceLaw.{kept};
 
     ghost ARITY = { 2 };
 
@@ -42,7 +43,7 @@ impl Template for NotCoExistence {
     ghost counts_fulfilled = { λ used a b log differ. at_first_sum nat_eq a b (apart a b differ) (none nat_eq (has nat_eq b)) (none nat_eq (has nat_eq a)) log };
 
     fn number() -> u8 {
-        16
+        number_of(Kind::NotCoExistence)
     }
 
     fn states() -> u8 {

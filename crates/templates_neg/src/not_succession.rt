@@ -1,4 +1,4 @@
-use template_core::{Class, Counts, Template};
+use template_core::{Class, Counts, Kind, Template, number_of};
 
 /// No b stands after an a.
 pub struct NotSuccession;
@@ -11,7 +11,8 @@ impl Template for NotSuccession {
     ghost use Rattle.template_core.specs.Tests.{has_later, has_earlier};
     ghost use Rattle.template_core.proofs.Parts.{each_of_both, at_first_sum};
     ghost use Rattle.template_core.proofs.Runs.{apart};
-    ghost use Rattle.templates_neg.specs.NotSuccession.{next_after, accepts, kept};
+    ghost use Rattle.templates_neg.specs.NotSuccession.{next_after, accepts};
+    ghost use Rattle.templates_neg.specs.NotSuccessionLaw.{kept};
 
     ghost ARITY = { 2 };
 
@@ -42,7 +43,7 @@ impl Template for NotSuccession {
     ghost counts_fulfilled = { λ used a b log differ. at_first_sum nat_eq a b (apart a b differ) (none nat_eq (has_later nat_eq b)) (none nat_eq (has_earlier nat_eq a)) log };
 
     fn number() -> u8 {
-        17
+        number_of(Kind::NotSuccession)
     }
 
     fn states() -> u8 {

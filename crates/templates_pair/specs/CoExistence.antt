@@ -1,19 +1,7 @@
--- The automaton of CoExistence, and that it accepts the traces that keep it.
-use Rattle.std.proofs.Common.{◌≡◌, ◌≢◌, ◌==◌, ◌↔◌, ℕ, ◌+◌, List, [], ◌∷◌, ◌++◌, Bool, true, false, ◌||◌, not, cond, eqb, nat_lt, IsTrue, nat_eq, refl, sym, ap, ◌∙◌, arith}
-use Rattle.std.proofs.lemmas.Bool.{false≢true}
-use Rattle.std.proofs.lemmas.Bool.Decides.{nat_tests}
-use Rattle.template_core.specs.Events.{occurs}
-use Rattle.template_core.specs.Tests.{has}
-use Rattle.template_core.specs.Counters.{occurrences, without}
-use Rattle.template_core.specs.Repertoire.{Keeps, each_of, at_first}
-use Rattle.template_core.specs.declared.kind.Kind.TheVariants.{CoExistence}
-use Rattle.template_core.proofs.Counters.{occurs-snoc}
-use Rattle.template_core.proofs.Gains.{without-is, occurs-count}
-use Rattle.template_core.proofs.Parts.{at_first-failing}
-use Rattle.template_core.specs.Automaton.{run, class_of}
+-- The automaton of CoExistence: the state after an event, and which states accept.
+use Rattle.std.specs.Prelude.{◌==◌, ℕ, Bool, ◌||◌, cond, nat_lt}
 use Rattle.template_core.specs.declared.class.Class.{Class}
 use Rattle.template_core.specs.declared.class.Class.TheVariants.{First, Second, Other}
-use Rattle.template_core.proofs.Runs.{law, apart}
 
 -- 0: neither has come; 1: a has; 2: b has; 3: both have
 abbrev pub next_after : ℕ → Class → ℕ
@@ -23,48 +11,3 @@ next_after state Other = state
 
 abbrev pub accepts : ℕ → Bool
 accepts state = (state == 0) || (state == 3)
-
-abbrev said : Bool → Bool → ℕ
-said first second = cond first (cond second 3 1) (cond second 2 0)
-
-step : (p q v w : Bool) → (v ≡ true → w ≡ false) → said (p || v) (q || w) ≡ next_after (said p q) (cond v First (cond w Second Other))
-step p q true true h = absurd (false≢true (sym (h refl)))
-step true true true false h = refl
-step true false true false h = refl
-step false true true false h = refl
-step false false true false h = refl
-step true true false true h = refl
-step true false false true h = refl
-step false true false true h = refl
-step false false false true h = refl
-step true true false false h = refl
-step true false false false h = refl
-step false true false false h = refl
-step false false false false h = refl
-
-accepts-said : (p q : Bool) (n m : ℕ) → eqb n 0 ≡ not p → eqb m 0 ≡ not q → accepts (said p q) ≡ eqb (cond q 0 n + cond p 0 m) 0
-accepts-said true true n m e f = refl
-accepts-said true false n m e f = grind (arith, nat_tests)
-accepts-said false true n m e f = grind (arith, nat_tests)
-accepts-said false false n m e f = grind (arith, nat_tests)
-
-pub kept : (a b : ℕ) (trace : List ℕ) → a ≢ b → IsTrue (accepts (run next_after 0 a b trace)) ↔ Keeps nat_eq CoExistence a b trace
-kept a b trace differ =
-    law next_after accepts 0 a b (each_of nat_eq a b) (at_first nat_eq a (has nat_eq b) (has nat_eq a)) says at_start each_event trace
-    (accepts-said (occurs nat_eq a trace) (occurs nat_eq b trace) (occurrences nat_eq a trace) (occurrences nat_eq b trace) (occurs-count nat_eq a trace) (occurs-count nat_eq b trace)
-    ∙ ap (λ n. eqb n 0) (sym (at_first-failing nat_eq a b (apart a b differ) (has nat_eq b) (has nat_eq a) trace ∙ both)))
-  where
-    both : without nat_eq a b trace + without nat_eq b a trace ≡ cond (occurs nat_eq b trace) 0 (occurrences nat_eq a trace) + cond (occurs nat_eq a trace) 0 (occurrences nat_eq b trace)
-    both = omega (arith, without-is nat_eq a b (apart a b differ) trace, without-is nat_eq b a (apart b a (λ e. differ (sym e))) trace)
-
-    says : List ℕ → ℕ
-    says t = said (occurs nat_eq a t) (occurs nat_eq b t)
-
-    at_start : says [] ≡ 0
-    at_start = refl
-
-    each_event : (t : List ℕ) (x : ℕ) → says (t ++ x ∷ []) ≡ next_after (says t) (class_of a b x)
-    each_event t x =
-        ap (λ v. said v (occurs nat_eq b (t ++ x ∷ []))) (occurs-snoc nat_eq a t x)
-        ∙ ap (said (occurs nat_eq a t || eqb x a)) (occurs-snoc nat_eq b t x)
-        ∙ step (occurs nat_eq a t) (occurs nat_eq b t) (eqb x a) (eqb x b) (apart a b differ x)

@@ -1,4 +1,4 @@
-use template_core::{Class, Counts, Template};
+use template_core::{Class, Counts, Kind, Template, number_of};
 
 /// Before each b stands an a, with no other b after it.
 pub struct AlternatePrecedence;
@@ -8,7 +8,8 @@ impl Template for AlternatePrecedence {
     ghost use Rattle.std.specs.Prelude.{nat_eq, ◌-◌};
     ghost use Rattle.template_core.specs.declared.kind.Kind.TheVariants.{AlternatePrecedence as the_kind};
     ghost use Rattle.template_core.proofs.Parts.{each_a, each_alternating_earlier};
-    ghost use Rattle.templates_pair.specs.AlternatePrecedence.{next_after, accepts, kept};
+    ghost use Rattle.templates_pair.specs.AlternatePrecedence.{next_after, accepts};
+    ghost use Rattle.templates_pair.specs.AlternatePrecedenceLaw.{kept};
 
     ghost ARITY = { 2 };
 
@@ -39,7 +40,7 @@ impl Template for AlternatePrecedence {
     ghost counts_fulfilled = { λ used a b log differ. each_alternating_earlier nat_eq a b log };
 
     fn number() -> u8 {
-        13
+        number_of(Kind::AlternatePrecedence)
     }
 
     fn states() -> u8 {

@@ -1,4 +1,4 @@
-use template_core::{Class, Counts, Template};
+use template_core::{Class, Counts, Kind, Template, number_of};
 
 /// Each a is followed by a b, with no other a before it.
 pub struct AlternateResponse;
@@ -8,7 +8,8 @@ impl Template for AlternateResponse {
     ghost use Rattle.std.specs.Prelude.{nat_eq, ◌-◌};
     ghost use Rattle.template_core.specs.declared.kind.Kind.TheVariants.{AlternateResponse as the_kind};
     ghost use Rattle.template_core.proofs.Parts.{each_a, each_alternating_later};
-    ghost use Rattle.templates_pair.specs.AlternateResponse.{next_after, accepts, kept};
+    ghost use Rattle.templates_pair.specs.AlternateResponse.{next_after, accepts};
+    ghost use Rattle.templates_pair.specs.AlternateResponseLaw.{kept};
 
     ghost ARITY = { 2 };
 
@@ -39,7 +40,7 @@ impl Template for AlternateResponse {
     ghost counts_fulfilled = { λ used a b log differ. each_alternating_later nat_eq a b log };
 
     fn number() -> u8 {
-        10
+        number_of(Kind::AlternateResponse)
     }
 
     fn states() -> u8 {

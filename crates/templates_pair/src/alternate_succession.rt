@@ -1,4 +1,4 @@
-use template_core::{Class, Counts, Template};
+use template_core::{Class, Counts, Kind, Template, number_of};
 
 /// Each a is followed by a b with no a between, and each b follows an a with no b between.
 pub struct AlternateSuccession;
@@ -9,7 +9,8 @@ impl Template for AlternateSuccession {
     ghost use Rattle.template_core.specs.declared.kind.Kind.TheVariants.{AlternateSuccession as the_kind};
     ghost use Rattle.template_core.proofs.Parts.{each_of_both, each_of_alternating};
     ghost use Rattle.template_core.proofs.Runs.{apart};
-    ghost use Rattle.templates_pair.specs.AlternateSuccession.{next_after, accepts, kept};
+    ghost use Rattle.templates_pair.specs.AlternateSuccession.{next_after, accepts};
+    ghost use Rattle.templates_pair.specs.AlternateSuccessionLaw.{kept};
 
     ghost ARITY = { 2 };
 
@@ -40,7 +41,7 @@ impl Template for AlternateSuccession {
     ghost counts_fulfilled = { λ used a b log differ. each_of_alternating nat_eq a b (apart a b differ) log };
 
     fn number() -> u8 {
-        6
+        number_of(Kind::AlternateSuccession)
     }
 
     fn states() -> u8 {

@@ -1,4 +1,4 @@
-use template_core::{Class, Counts, Template};
+use template_core::{Class, Counts, Kind, Template, number_of};
 
 /// Directly before each b stands an a.
 pub struct ChainPrecedence;
@@ -9,7 +9,8 @@ impl Template for ChainPrecedence {
     ghost use Rattle.template_core.specs.declared.kind.Kind.TheVariants.{ChainPrecedence as the_kind};
     ghost use Rattle.template_core.specs.Tests.{has_previous};
     ghost use Rattle.template_core.proofs.Parts.{each_a, each_passing};
-    ghost use Rattle.templates_pair.specs.ChainPrecedence.{next_after, accepts, kept};
+    ghost use Rattle.templates_pair.specs.ChainPrecedence.{next_after, accepts};
+    ghost use Rattle.templates_pair.specs.ChainPrecedenceLaw.{kept};
 
     ghost ARITY = { 2 };
 
@@ -40,7 +41,7 @@ impl Template for ChainPrecedence {
     ghost counts_fulfilled = { λ used a b log differ. each_passing nat_eq b (has_previous nat_eq a) log };
 
     fn number() -> u8 {
-        12
+        number_of(Kind::ChainPrecedence)
     }
 
     fn states() -> u8 {

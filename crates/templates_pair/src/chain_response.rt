@@ -1,4 +1,4 @@
-use template_core::{Class, Counts, Template};
+use template_core::{Class, Counts, Kind, Template, number_of};
 
 /// Directly after each a stands a b.
 pub struct ChainResponse;
@@ -9,7 +9,8 @@ impl Template for ChainResponse {
     ghost use Rattle.template_core.specs.declared.kind.Kind.TheVariants.{ChainResponse as the_kind};
     ghost use Rattle.template_core.specs.Tests.{has_next};
     ghost use Rattle.template_core.proofs.Parts.{each_a, each_passing};
-    ghost use Rattle.templates_pair.specs.ChainResponse.{next_after, accepts, kept};
+    ghost use Rattle.templates_pair.specs.ChainResponse.{next_after, accepts};
+    ghost use Rattle.templates_pair.specs.ChainResponseLaw.{kept};
 
     ghost ARITY = { 2 };
 
@@ -40,7 +41,7 @@ impl Template for ChainResponse {
     ghost counts_fulfilled = { λ used a b log differ. each_passing nat_eq a (has_next nat_eq b) log };
 
     fn number() -> u8 {
-        9
+        number_of(Kind::ChainResponse)
     }
 
     fn states() -> u8 {

@@ -1,4 +1,4 @@
-use template_core::{Class, Counts, Template};
+use template_core::{Class, Counts, Kind, Template, number_of};
 
 /// Directly after each a stands a b, and directly before each b an a.
 pub struct ChainSuccession;
@@ -10,7 +10,8 @@ impl Template for ChainSuccession {
     ghost use Rattle.template_core.specs.Tests.{has_next, has_previous};
     ghost use Rattle.template_core.proofs.Parts.{each_of_both, at_first_sum};
     ghost use Rattle.template_core.proofs.Runs.{apart};
-    ghost use Rattle.templates_pair.specs.ChainSuccession.{next_after, accepts, kept};
+    ghost use Rattle.templates_pair.specs.ChainSuccession.{next_after, accepts};
+    ghost use Rattle.templates_pair.specs.ChainSuccessionLaw.{kept};
 
     ghost ARITY = { 2 };
 
@@ -41,7 +42,7 @@ impl Template for ChainSuccession {
     ghost counts_fulfilled = { λ used a b log differ. at_first_sum nat_eq a b (apart a b differ) (has_next nat_eq b) (has_previous nat_eq a) log };
 
     fn number() -> u8 {
-        5
+        number_of(Kind::ChainSuccession)
     }
 
     fn states() -> u8 {

@@ -1,4 +1,4 @@
-use template_core::{Class, Counts, Template};
+use template_core::{Class, Counts, Kind, Template, number_of};
 
 /// A trace has both or neither.
 pub struct CoExistence;
@@ -10,7 +10,8 @@ impl Template for CoExistence {
     ghost use Rattle.template_core.specs.Tests.{has};
     ghost use Rattle.template_core.proofs.Parts.{each_of_both, each_of_not_failing};
     ghost use Rattle.template_core.proofs.Runs.{apart};
-    ghost use Rattle.templates_pair.specs.CoExistence.{next_after, accepts, kept};
+    ghost use Rattle.templates_pair.specs.CoExistence.{next_after, accepts};
+    ghost use Rattle.templates_pair.specs.CoExistenceLaw.{kept};
 
     ghost ARITY = { 2 };
 
@@ -41,7 +42,7 @@ impl Template for CoExistence {
     ghost counts_fulfilled = { λ used a b log differ. each_of_not_failing nat_eq a b (apart a b differ) (has nat_eq b) (has nat_eq a) log };
 
     fn number() -> u8 {
-        8
+        number_of(Kind::CoExistence)
     }
 
     fn states() -> u8 {

@@ -1,4 +1,4 @@
-use template_core::{Class, Counts, Template};
+use template_core::{Class, Counts, Kind, Template, number_of};
 
 /// Before each b stands an a.
 pub struct Precedence;
@@ -9,7 +9,8 @@ impl Template for Precedence {
     ghost use Rattle.template_core.specs.declared.kind.Kind.TheVariants.{Precedence as the_kind};
     ghost use Rattle.template_core.specs.Tests.{has_earlier};
     ghost use Rattle.template_core.proofs.Parts.{each_a, each_not_failing};
-    ghost use Rattle.templates_pair.specs.Precedence.{next_after, accepts, kept};
+    ghost use Rattle.templates_pair.specs.Precedence.{next_after, accepts};
+    ghost use Rattle.templates_pair.specs.PrecedenceLaw.{kept};
 
     ghost ARITY = { 2 };
 
@@ -40,7 +41,7 @@ impl Template for Precedence {
     ghost counts_fulfilled = { λ used a b log differ. each_not_failing nat_eq b (has_earlier nat_eq a) log };
 
     fn number() -> u8 {
-        14
+        number_of(Kind::Precedence)
     }
 
     fn states() -> u8 {

@@ -1,4 +1,4 @@
-use template_core::{Class, Counts, Template};
+use template_core::{Class, Counts, Kind, Template, number_of};
 
 /// A trace with an a has a b.
 pub struct RespondedExistence;
@@ -9,7 +9,8 @@ impl Template for RespondedExistence {
     ghost use Rattle.template_core.specs.declared.kind.Kind.TheVariants.{RespondedExistence as the_kind};
     ghost use Rattle.template_core.specs.Tests.{has};
     ghost use Rattle.template_core.proofs.Parts.{each_a, each_not_failing};
-    ghost use Rattle.templates_pair.specs.RespondedExistence.{next_after, accepts, kept};
+    ghost use Rattle.templates_pair.specs.RespondedExistence.{next_after, accepts};
+    ghost use Rattle.templates_pair.specs.RespondedExistenceLaw.{kept};
 
     ghost ARITY = { 2 };
 
@@ -40,7 +41,7 @@ impl Template for RespondedExistence {
     ghost counts_fulfilled = { λ used a b log differ. each_not_failing nat_eq a (has nat_eq b) log };
 
     fn number() -> u8 {
-        15
+        number_of(Kind::RespondedExistence)
     }
 
     fn states() -> u8 {

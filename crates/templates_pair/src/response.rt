@@ -1,4 +1,4 @@
-use template_core::{Class, Counts, Template};
+use template_core::{Class, Counts, Kind, Template, number_of};
 
 /// Each a is followed by a b.
 pub struct Response;
@@ -9,7 +9,8 @@ impl Template for Response {
     ghost use Rattle.template_core.specs.declared.kind.Kind.TheVariants.{Response as the_kind};
     ghost use Rattle.template_core.specs.Tests.{has_later};
     ghost use Rattle.template_core.proofs.Parts.{each_a, each_not_failing};
-    ghost use Rattle.templates_pair.specs.Response.{next_after, accepts, kept};
+    ghost use Rattle.templates_pair.specs.Response.{next_after, accepts};
+    ghost use Rattle.templates_pair.specs.ResponseLaw.{kept};
 
     ghost ARITY = { 2 };
 
@@ -40,7 +41,7 @@ impl Template for Response {
     ghost counts_fulfilled = { λ used a b log differ. each_not_failing nat_eq a (has_later nat_eq b) log };
 
     fn number() -> u8 {
-        11
+        number_of(Kind::Response)
     }
 
     fn states() -> u8 {

@@ -1,4 +1,4 @@
-use template_core::{Class, Counts, Template};
+use template_core::{Class, Counts, Kind, Template, number_of};
 
 /// After each a stands a b, and before each b an a.
 pub struct Succession;
@@ -10,7 +10,8 @@ impl Template for Succession {
     ghost use Rattle.template_core.specs.Tests.{has_later, has_earlier};
     ghost use Rattle.template_core.proofs.Parts.{each_of_both, each_of_not_failing};
     ghost use Rattle.template_core.proofs.Runs.{apart};
-    ghost use Rattle.templates_pair.specs.Succession.{next_after, accepts, kept};
+    ghost use Rattle.templates_pair.specs.Succession.{next_after, accepts};
+    ghost use Rattle.templates_pair.specs.SuccessionLaw.{kept};
 
     ghost ARITY = { 2 };
 
@@ -41,7 +42,7 @@ impl Template for Succession {
     ghost counts_fulfilled = { λ used a b log differ. each_of_not_failing nat_eq a b (apart a b differ) (has_later nat_eq b) (has_earlier nat_eq a) log };
 
     fn number() -> u8 {
-        7
+        number_of(Kind::Succession)
     }
 
     fn states() -> u8 {

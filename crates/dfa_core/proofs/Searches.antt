@@ -6,7 +6,7 @@ use Rattle.std.proofs.lemmas.Bool.{cases_eq, cases_lt}
 use Rattle.std.proofs.Math.Nat.{mul_comm}
 use Rattle.dfa_core.specs.declared.search.Search.{Search}
 use Rattle.dfa_core.specs.Steps.{Steps}
-use Rattle.dfa_core.specs.Searching.{IsSearch, AreNumbers, IsOn, HasNumber, TakesNumber, Numbers, AreEntries, IsExplored}
+use Rattle.dfa_core.specs.Searching.{IsSearch, AreNumbers, Follows, IsOn, HasNumber, TakesNumber, Numbers, AreEntries, IsExplored}
 use Rattle.dfa_core.proofs.Pigeons.{le_from_injection}
 use Rattle.dfa_core.proofs.Places.{pushed, row_le}
 
@@ -122,28 +122,20 @@ numbers-new count y states numbers h ly none =
       ];
     }
 
--- What one more step does. Where it finds a state, that has the last number.
-pub record IsStep (a : Steps) (old new : Search) (done at x number : ℕ) : Type 0 where
-  pub on : IsOn a new (done + 1)
-  pub bound : number < length new.states.items
-  pub is : get_or new.states.items number 0 ≡ a.next (get_or old.states.items at 0) x
-  pub grows : length old.states.items ≤ length new.states.items
-  pub stay : (t : ℕ) → t < length old.states.items → get_or new.states.items t 0 ≡ get_or old.states.items t 0
-  pub last : (t : ℕ) → length old.states.items ≤ t → t < length new.states.items → (t ≡ number) × (number ≡ length old.states.items)
-
 pub on-more : (a : Steps) (old new : Search) (done at x y number : ℕ) → IsOn a old done → done ≡ at * a.symbols + x → at < length old.states.items → x < a.symbols
-    → y ≡ a.next (get_or old.states.items at 0) x → y < a.states → Numbers old new y done number → IsStep a old new done at x number
+    → y ≡ a.next (get_or old.states.items at 0) x → y < a.states → Numbers old new y done number → Follows a old new done at x number
 on-more a old new done at x y number h place la lx to ly m = go (get_or old.numbers.items y None) refl m
   where
     states : List ℕ
     states = old.states.items
 
-    go : (o : Option ℕ) → get_or old.numbers.items y None ≡ o → MatchOption o (TakesNumber old new y done number) (λ known. HasNumber old new known number) → IsStep a old new done at x number
+    go : (o : Option ℕ) → get_or old.numbers.items y None ≡ o → MatchOption o (TakesNumber old new y done number) (λ known. HasNumber old new known number) → Follows a old new done at x number
     go None e takes =
         let grow : length (states ++ y ∷ []) ≡ length states + 1 = length_push states y in
         let fresh : (t : ℕ) → t < length states → get_or states t 0 ≡ y → ⊥ = λ t l same. let is : None ≡ Some t = sym e ∙ (rw same at (h.numbers.numbered t l)) in cc in
         record {
           on = record {
+            fits = h.fits;
             order = rw (takes.states, takes.found) (search-new a states old.found.items done at x h.order place la lx y to ly fresh);
             numbers = rw (takes.states, takes.numbers) (numbers-new a.states y states old.numbers.items h.numbers ly e);
           };
@@ -157,6 +149,7 @@ on-more a old new done at x y number h place la lx to ly m = go (get_or old.numb
         let name = h.numbers.named y known e in
         record {
           on = record {
+            fits = h.fits;
             order = rw (has.states, has.found) (search-known a states old.found.items done at x h.order place la lx known name.0 (name.1 ∙ to));
             numbers = rw (has.states, has.numbers) h.numbers;
           };
@@ -170,18 +163,18 @@ on-more a old new done at x y number h place la lx to ly m = go (get_or old.numb
 pub few-search : (a : Steps) (states found : List ℕ) (done : ℕ) → IsSearch a states found done → length states ≤ a.states
 few-search a states found done h = le_from_injection (λ t. get_or states t 0) (length states) a.states h.below h.distinct
 
--- a number that was found is of a state that isn't accepting, or it is the last
-pub none-more : (a : Steps) (old new : Search) (done at x number : ℕ) → IsStep a old new done at x number
+-- no state that was found is accepting, if the one that may have been found just now isn't
+pub none-more : (a : Steps) (old new : Search) (done at x number : ℕ) → Follows a old new done at x number
     → ((k : ℕ) → k < length old.states.items → a.accepting (get_or old.states.items k 0) ≡ false)
-    → (number ≡ length old.states.items → a.accepting (a.next (get_or old.states.items at 0) x) ≡ false)
+    → (number ≡ length old.states.items → a.accepting (get_or new.states.items number 0) ≡ false)
     → (k : ℕ) → k < length new.states.items → a.accepting (get_or new.states.items k 0) ≡ false
 none-more a old new done at x number s none fresh k l = elim (cases_lt k (length old.states.items)) [
   | inl lt ↦ ap a.accepting (s.stay k lt) ∙ none k lt
-  | inr ge ↦ let p = s.last k ge l in rw p.0 (ap a.accepting s.is ∙ fresh p.1)
+  | inr ge ↦ let p = s.last k ge l in rw p.0 (fresh p.1)
 ]
 
 -- one more entry, where more states may have been found
-pub entries-more : (a : Steps) (old new : Search) (next : List ℕ) (at x number : ℕ) → IsStep a old new (length next) at x number → at < length old.states.items → x < a.symbols
+pub entries-more : (a : Steps) (old new : Search) (next : List ℕ) (at x number : ℕ) → Follows a old new (length next) at x number → at < length old.states.items → x < a.symbols
     → length next ≡ at * a.symbols + x → AreEntries a old.states.items next → AreEntries a new.states.items (next ++ number ∷ [])
 entries-more a old new next at x number s la lx e h =
     let grow : length (next ++ number ∷ []) ≡ length next + 1 = length_push next number in
@@ -201,13 +194,13 @@ entries-more a old new next at x number s la lx e h =
     }
 
 -- with a row for each state, the search is over
-pub explored-all : (a : Steps) (states found next : List ℕ) (done : ℕ) → IsSearch a states found done → done ≡ length states * a.symbols → length next ≡ done
-    → AreEntries a states next → a.states < 2 ^ 32 → IsExplored a states next
-explored-all a states found next done h all e entries fits = record {
-  found = found;
-  search = rw all at h;
-  few = few-search a states found done h;
-  fits = fits;
-  table_length = e ∙ all;
+pub explored-all : (a : Steps) (search : Search) (next : List ℕ) → IsOn a search (length next) → length next ≡ length search.states.items * a.symbols
+    → AreEntries a search.states.items next → IsExplored a search.states.items next
+explored-all a search next h all entries = record {
+  found = search.found.items;
+  search = rw all at h.order;
+  few = few-search a search.states.items search.found.items (length next) h.order;
+  fits = h.fits;
+  table_length = all;
   entries = entries;
 }

@@ -31,8 +31,9 @@ pub record AreNumbers (count : ℕ) (states : List ℕ) (numbers : List (Option 
   pub numbered : (t : ℕ) → t < length states → get_or numbers (get_or states t 0) None ≡ Some t
   pub named : (q t : ℕ) → get_or numbers q None ≡ Some t → (t < length states) × (get_or states t 0 ≡ q)
 
--- a search that goes on
+-- a search that goes on when so many steps are done
 pub record IsOn (s : Steps) (search : Search) (done : ℕ) : Type 0 where
+  pub fits : s.states < 2 ^ 32
   pub order : IsSearch s search.states.items search.found.items done
   pub numbers : AreNumbers s.states search.states.items search.numbers.items
 
@@ -52,6 +53,15 @@ pub record TakesNumber (old new : Search) (state place number : ℕ) : Type 0 wh
 
 abbrev pub Numbers : Search → Search → ℕ → ℕ → ℕ → Type 0
 Numbers old new state place number = MatchOption (get_or old.numbers.items state None) (TakesNumber old new state place number) (λ known. HasNumber old new known number)
+
+-- What one more step does, from a number by a symbol: it leads to a number. A state that it finds has the last number.
+pub record Follows (s : Steps) (old new : Search) (done at x number : ℕ) : Type 0 where
+  pub on : IsOn s new (done + 1)
+  pub bound : number < length new.states.items
+  pub is : get_or new.states.items number 0 ≡ s.next (get_or old.states.items at 0) x
+  pub grows : length old.states.items ≤ length new.states.items
+  pub stay : (t : ℕ) → t < length old.states.items → get_or new.states.items t 0 ≡ get_or old.states.items t 0
+  pub last : (t : ℕ) → length old.states.items ≤ t → t < length new.states.items → (t ≡ number) × (number ≡ length old.states.items)
 
 -- the entries of a table so far, row after row
 pub record AreEntries (s : Steps) (states next : List ℕ) : Type 0 where

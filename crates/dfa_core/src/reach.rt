@@ -56,10 +56,8 @@ fn explore<S: System>(alloc: Global, system: &S) -> Result<Explored, Refusal>
     let mut next = Vec::new(alloc);
     let mut at = 0;
     'rows: while at < search.states.len() {
-        let state = search.states[at];
         'steps: for symbol in 0..symbols {
-            let target = system.step(state, symbol);
-            let number = search.number_of(target, next.len())?;
+            let number = search.follow(system, at, symbol, next.len())?;
             next.push(number)?;
         }
         at += 1;
@@ -98,12 +96,10 @@ pub fn first_accepted<S: System>(alloc: Global, system: &S) -> Result<Option<Tra
     let mut at = 0;
     let mut place = 0;
     'rows: while at < search.states.len() {
-        let from = search.states[at];
         'steps: for symbol in 0..symbols {
             let count = search.states.len();
-            let target = system.step(from, symbol);
-            let number = search.number_of(target, place)?;
-            if number as usize == count && system.accepting(target) {
+            let number = search.follow(system, at, symbol, place)?;
+            if number as usize == count && system.accepting(search.states[count]) {
                 return Ok(Some(search.trace_to(alloc, symbols, number)?));
             }
             place += 1;

@@ -1,6 +1,7 @@
-ghost use Rattle.std.specs.Prelude.{◌≡◌, ◌<◌, ◌+◌, ◌*◌, ◌^◌, ◌∷◌, [], ℕ, replicate, None, Some, IfOk, IfErr, slice_index, slice_set, vec_len};
-ghost use Rattle.dfa_core.specs.Searching.{Numbers, path};
+ghost use Rattle.std.specs.Prelude.{◌≡◌, ◌<◌, ◌+◌, ◌*◌, ◌^◌, ◌∷◌, [], ℕ, replicate, None, Some, IfOk, IfErr, length, slice_index, slice_set, vec_len};
+ghost use Rattle.dfa_core.specs.Searching.{Follows, IsOn, Numbers, path};
 
+use crate::System;
 use decl_base::{Refusal, Trace};
 use std::alloc::Global;
 
@@ -34,8 +35,8 @@ impl Search {
         })
     }
 
-    /// The number of the state that the step at the place leads to. A state without a number takes the next one.
-    pub fn number_of(&mut self, state: u32, place: usize) -> Result<u32, Refusal>
+    /// The number of a state, to which the step at the place leads. A state without a number takes the next one.
+    fn number_of(&mut self, state: u32, place: usize) -> Result<u32, Refusal>
         requires state { state < vec_len self.old.numbers }
         requires few { vec_len self.old.states < 2 ^ 32 }
         ensures ok { IfOk result (Numbers self.old self.new state place) }
@@ -51,6 +52,26 @@ impl Search {
                 Ok(number)
             }
         }
+    }
+
+    /// Follows the step from a numbered state by a symbol: the number of the state that it leads to. The steps are followed row after row, and the
+    /// place of this one is how many were before it.
+    pub fn follow<S: System>(
+        &mut self,
+        system: &S,
+        at: usize,
+        symbol: u32,
+        place: usize,
+    ) -> Result<u32, Refusal>
+        requires on { IsOn (S.steps system.now) self.old place }
+        requires place { place ≡ at * (S.steps system.now).symbols + symbol }
+        requires at { at < length self.old.states.items }
+        requires symbol { symbol < (S.steps system.now).symbols }
+        ensures ok { IfOk result (Follows (S.steps system.now) self.old self.new place at symbol) }
+        ensures err { IfErr result (λ e. e ≡ Refusal.Memory) }
+    {
+        let state = system.step(self.states[at], symbol);
+        self.number_of(state, place)
     }
 
     /// The symbols by which a number was found, from the start on.

@@ -4,8 +4,8 @@ use Rattle.dfa_core.specs.Traces.{IsTrace}
 use Rattle.dfa_core.specs.Automaton.{Automaton, IsReachable, IsWhole, SameLanguage, is_accepting, state_count, step, steps_of}
 use Rattle.dfa_core.specs.Steps.{Steps, accepts, run}
 use Rattle.dfa_core.proofs.Runs.{run-append, run-bound}
-use Rattle.dfa_minimise.specs.Classes.{IsEquivalence}
-use Rattle.dfa_minimise.specs.Least.{IsLeast, quotient}
+use Rattle.dfa_minimise.specs.Classes.{IsEquivalence, quotient}
+use Rattle.dfa_minimise.specs.Least.{IsLeast}
 
 trace-append : (n : ℕ) (u w : List ℕ) → IsTrace n u → IsTrace n w → IsTrace n (u ++ w)
 trace-append n [] w tu tw = tw

@@ -26,15 +26,6 @@ pub record IsBeingSplit (a : Automaton) (count splitter symbol : ℕ) (was class
   pub together : (y q r : ℕ) → y < symbol → q < state_count a → r < state_count a → get_or class q 0 ≡ get_or class r 0
       → eqb (get_or was (step a q y) 0) splitter ≡ eqb (get_or was (step a r y) 0) splitter
 
-pub split-none : (a : Automaton) (count splitter : ℕ) (class : List ℕ) → IsSound a class → IsStableBelow a class splitter → IsBeingSplit a count splitter 0 class class
-split-none a count splitter class sound stable = record {
-  sound = sound;
-  stable = stable;
-  refines = λ q r l m e. e;
-  stays = λ q l m. refl;
-  together = λ y q r ly lq lr e. absurd (omega arith);
-}
-
 pub split-more : (a : Automaton) (count now splitter x : ℕ) (inside states was old new : List ℕ) → IsWhole a → x < a.symbols → count ≤ now → splitter < count
     → ((q : ℕ) → q < state_count a → is_in inside q ≡ eqb (get_or was q 0) splitter) → LeadTo a x inside states → IsCut (state_count a) now states old new
     → IsBeingSplit a count splitter x was old → IsBeingSplit a count splitter (x + 1) was new

@@ -23,17 +23,6 @@ is_in-place (y ∷ xs) q e = go (eqb y q) refl (is_in-place xs q) e
     go true is later e2 = (zero, omega arith, grind (arith, is))
     go false is later e2 = let k = later e2 in (suc k.0, omega (arith, k.1), k.2)
 
-pub marked-none : (old : Refinable) → IsTidy old → IsMarkedSoFar old old []
-marked-none old t = record {
-  refinable = t.refinable;
-  class = refl;
-  first = refl;
-  end = refl;
-  fit = t.fit;
-  marks = λ q lq. ltb_not (get_or old.place.items q 0) (get_or old.first.items (get_or old.class.items q 0) 0 + get_or old.marked.items (get_or old.class.items q 0) 0)
-      (let z = t.no_marks.none (get_or old.class.items q 0) in let b = t.refinable.class_first q lq in omega arith);
-}
-
 pub marked-more : (old now after : Refinable) (touched : List ℕ) (state : ℕ) → IsMarkedSoFar old now touched → Marks (length now.class.items) now after state → IsMarkedSoFar old after (touched ++ state ∷ [])
 marked-more old now after touched state h m =
     let n : length now.class.items ≡ length old.class.items = ap length h.class in

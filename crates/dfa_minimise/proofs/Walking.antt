@@ -45,36 +45,10 @@ filled-more a state y target last before whole ls ly is h =
       ];
     }
 
-pub filled-row : (a : Automaton) (state : ℕ) (last before : List (Option ℕ)) → AreFilled a state a.symbols last before → AreFilled a (state + 1) 0 last before
-filled-row a state last before h = record {
-  last_length = h.last_length;
-  before_length = h.before_length;
-  last_done = λ t x lt lx l. absurd (omega arith);
-  last_open = λ t x lt lx l. h.last_done t x lt lx lx;
-  before_of = λ q x lq lx l. h.before_of q x lq lx (grind (arith, l));
-}
-
 nones : (n i : ℕ) → get_or {A = Option ℕ} (replicate n None) i None ≡ None
 nones zero i = refl
 nones (suc n) zero = refl
 nones (suc n) (suc i) = nones n i
-
-pub filled-none : (a : Automaton) (last before : List (Option ℕ)) (k : ℕ) → k ≡ state_count a * a.symbols → last ≡ replicate k None → before ≡ replicate k None → AreFilled a 0 0 last before
-filled-none a last before k e el eb = rw (el, eb) (record {
-  last_length = length-replicate {A = Option ℕ} k None ∙ e;
-  before_length = length-replicate {A = Option ℕ} k None ∙ e;
-  last_done = λ t x lt lx l. absurd (omega arith);
-  last_open = λ t x lt lx l. rw (nones k (t * a.symbols + x)) (λ p m f. omega arith);
-  before_of = λ q x lq lx l. absurd (omega arith);
-})
-
-pub sources-all : (a : Automaton) (last before : List (Option ℕ)) → AreFilled a (state_count a) 0 last before → AreSources a last before
-sources-all a last before h = record {
-  last_length = h.last_length;
-  before_length = h.before_length;
-  last_of = λ t x lt lx. h.last_open t x lt lx (omega arith);
-  before_of = λ q x lq lx. h.before_of q x lq lx (let b = mul-add-lt q a.symbols x (state_count a) lq lx in let c = mul_comm a.symbols (state_count a) in omega arith);
-}
 
 -- what is visited of a walk, at a state
 abbrev pub visited : Automaton → ℕ → ℕ → Option ℕ → Bool → ℕ → Bool
@@ -131,6 +105,3 @@ seen a x t g o q e h =
 pub walk-more : (a : Automaton) (x t g : ℕ) (o : Option ℕ) (b : Bool) (q : ℕ) → step a g x ≡ t → IsGreatest a x t g o → (visited a x t (Some g) b q || eqb g q) ≡ visited a x t o b q
 walk-more a x t g o true q e h = refl
 walk-more a x t g o false q e h = seen a x t g o q e h
-
-pub walk-all : (a : Automaton) (x t : ℕ) (b : Bool) (q : ℕ) → visited a x t None b q ≡ (b || eqb t (step a q x))
-walk-all a x t b q = ap (λ (c : Bool). b || (eqb t (step a q x) && c)) (leb_yes 0 q (omega arith)) ∙ ap (λ (c : Bool). b || c) (and-true (eqb t (step a q x)))

@@ -10,52 +10,6 @@ use Rattle.dfa_minimise.specs.declared.refinable.Refinable.{Refinable}
 use Rattle.dfa_minimise.proofs.Splitting.{is_in-place}
 use Rattle.dfa_minimise.proofs.Marking.{eqb_not}
 
-pub counting-more : (n : ℕ) (xs ys : List ℕ) → IsCounting n xs → ys ≡ xs ++ n ∷ [] → IsCounting (n + 1) ys
-counting-more n xs ys h e = rw e (record {
-  counted = length_push xs n ∙ ap (λ (k : ℕ). k + 1) h.counted;
-  each = λ i l. elim (pushed xs n 0 i n h.counted (omega arith)) [ inl p ↦ p.1 ∙ h.each i p.0 | inr p ↦ p.1 ∙ sym p.0 ];
-})
-
-pub tidy-whole : (n : ℕ) (p : Refinable) → 0 < n → n < 2 ^ 32 → IsCounting n p.order.items → IsCounting n p.place.items → length p.class.items ≡ n → ((q : ℕ) → get_or p.class.items q 0 ≡ 0)
-    → p.first.items ≡ zero ∷ [] → p.end.items ≡ n ∷ [] → p.marked.items ≡ zero ∷ [] → IsTidy p
-tidy-whole n p pos few o l ec z ef ee em =
-    let at : (q : ℕ) → q < length p.class.items → q < n = λ q lq. omega (arith, ec, lq) in
-    let only : (c : ℕ) → c < length p.first.items → c ≡ 0 = λ c lc. let k = ap length ef in omega arith in
-    let f0 : get_or p.first.items 0 0 ≡ 0 = ap (λ (xs : List ℕ). get_or xs 0 0) ef in
-    let e0 : get_or p.end.items 0 0 ≡ n = ap (λ (xs : List ℕ). get_or xs 0 0) ee in
-    let m0 : (c : ℕ) → get_or p.marked.items c 0 ≡ 0 = λ c. ap (λ (xs : List ℕ). get_or xs c 0) em ∙ zero_at c in
-    let lf = ap length ef in
-    let le = ap length ee in
-    let lm = ap length em in
-    record {
-      refinable = record {
-        order_length = o.counted ∙ sym ec;
-        place_length = l.counted ∙ sym ec;
-        class_length = refl;
-        end_length = le ∙ sym lf;
-        place_bound = λ q lq. rw (l.each q (at q lq)) lq;
-        order_bound = λ i li. rw (o.each i (at i li)) li;
-        order_place = λ q lq. rw (l.each q (at q lq)) (o.each q (at q lq));
-        place_order = λ i li. rw (o.each i (at i li)) (l.each i (at i li));
-        class_bound = λ q lq. rw (z q) (omega arith);
-        class_first = λ q lq. rw (z q, f0) (omega arith);
-        class_end = λ q lq. let a = at q lq in rw (z q, e0, l.each q a) a;
-        some = λ c lc. rw (only c lc, f0, e0) pos;
-        end_bound = λ c lc. rw (only c lc, e0) (omega arith);
-        class_order = λ c i lc lo hi. z (get_or p.order.items i 0) ∙ sym (only c lc);
-      };
-      fit = record {
-        marks_length = lm ∙ sym lf;
-        marks_bound = λ c lc. rw (only c lc, f0, e0, m0 0) (omega arith);
-      };
-      no_marks = record { none = m0 };
-      few = omega arith;
-    }
-  where
-    zero_at : (c : ℕ) → get_or (zero ∷ []) c 0 ≡ 0
-    zero_at zero = refl
-    zero_at (suc c) = refl
-
 is_in-from_place : (xs : List ℕ) (q j : ℕ) → j < length xs → get_or xs j 0 ≡ q → is_in xs q ≡ true
 is_in-from_place [] q j l e = absurd (omega arith)
 is_in-from_place (y ∷ xs) q zero l e = rw (eq-eqb y q e) refl

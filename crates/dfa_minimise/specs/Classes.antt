@@ -1,14 +1,9 @@
--- Which states belong together.
+-- Internal: which states belong together.
 use Rattle.std.specs.Prelude.{◌≡◌, ℕ, ◌<◌, ◌==◌, List, length, slice_index_or as get_or}
-use Rattle.dfa_core.specs.Traces.{IsTrace}
-use Rattle.dfa_core.specs.Automaton.{Automaton, IsWhole, is_accepting, run, state_count, step}
+use Rattle.dfa_core.specs.Automaton.{Automaton, IsWhole, is_accepting, state_count, step}
+use Rattle.dfa_core.specs.Steps.{Steps}
+use Rattle.dfa_minimise.specs.Least.{AreToldApart}
 use Rattle.dfa_minimise.specs.Partitions.{IsPartition, is_in}
-
--- a continuation that is accepted from one state alone
-pub record AreToldApart (a : Automaton) (q r : ℕ) : Type 0 where
-  pub by : List ℕ
-  pub over : IsTrace a.symbols by
-  pub differs : is_accepting a (run a q by) ≡ is_accepting a (run a r by) → ⊥
 
 -- States of two classes are told apart, and states of one class accept alike.
 pub record IsSound (a : Automaton) (class : List ℕ) : Type 0 where
@@ -36,3 +31,13 @@ pub record LeadTo (a : Automaton) (x : ℕ) (targets states : List ℕ) : Type 0
 pub record AreInClass (n c : ℕ) (class states : List ℕ) : Type 0 where
   pub bound : (k : ℕ) → k < length states → get_or states k 0 < n
   pub are : (q : ℕ) → q < n → is_in states q ≡ (get_or class q 0 == c)
+
+-- the classes as states, which step to where their members do
+abbrev pub quotient : Automaton → List ℕ → List ℕ → Steps
+quotient a class members = record {
+  symbols = a.symbols;
+  states = length members;
+  start = get_or class a.start 0;
+  next = λ c x. get_or class (step a (get_or members c 0) x) 0;
+  accepting = λ c. is_accepting a (get_or members c 0);
+}

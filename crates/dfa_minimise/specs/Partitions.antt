@@ -1,4 +1,4 @@
--- Partitions of the states below a number.
+-- Internal: partitions of the states below a number.
 use Rattle.std.specs.Prelude.{◌≡◌, ℕ, ◌<◌, ◌≤◌, ◌+◌, ◌^◌, ◌⊎◌, ◌++◌, ◌∷◌, [], List, map, length, Bool, ◌||◌, ◌==◌, nat_lt, slice_index_or as get_or}
 use Rattle.std.specs.List.{list_any}
 use Rattle.dfa_minimise.specs.declared.refinable.Refinable.{Refinable}
@@ -30,6 +30,10 @@ pub record IsRefinable (n : ℕ) (order place class first end : List ℕ) : Type
   pub some : (c : ℕ) → c < length first → get_or first c 0 < get_or end c 0
   pub end_bound : (c : ℕ) → c < length first → get_or end c 0 ≤ n
   pub class_order : (c i : ℕ) → c < length first → get_or first c 0 ≤ i → i < get_or end c 0 → get_or class (get_or order i 0) 0 ≡ c
+
+-- the states of each class stand together
+abbrev pub IsGrouped : Refinable → Type 0
+IsGrouped p = IsRefinable (length p.class.items) p.order.items p.place.items p.class.items p.first.items p.end.items
 
 -- the marked states of a class stand at its front
 pub record MarksFit (first end marked : List ℕ) : Type 0 where
@@ -67,7 +71,7 @@ pub record IsCut (n count : ℕ) (touched old new : List ℕ) : Type 0 where
 
 -- a partition of fewer than 2^32 states that has no mark
 pub record IsTidy (p : Refinable) : Type 0 where
-  pub refinable : IsRefinable (length p.class.items) p.order.items p.place.items p.class.items p.first.items p.end.items
+  pub refinable : IsGrouped p
   pub fit : MarksFit p.first.items p.end.items p.marked.items
   pub no_marks : HasNoMarks p.marked.items
   pub few : length p.class.items < 2 ^ 32

@@ -35,7 +35,7 @@ struct Quotient<'a> {
 }
 
 impl System for Quotient<'_> {
-    ghost use Rattle.dfa_minimise.specs.Least.{quotient};
+    ghost use Rattle.dfa_minimise.specs.Classes.{quotient};
     ghost use Rattle.dfa_minimise.specs.Partitions.{members_of};
 
     ghost steps = { λ q. quotient q.dfa.now q.partition.now.class.items (members_of q.partition.now) };

@@ -1,5 +1,5 @@
 ghost use Rattle.std.specs.Prelude.{◌≡◌, ◌<◌, ◌≤◌, ◌+◌, ◌^◌, ℕ, length, slice_index, IfOk, OnOk};
-ghost use Rattle.dfa_minimise.specs.Partitions.{Begins, CutsClass, IsCut, IsRefinable, IsTidy, Marks, MarksFit, members_of};
+ghost use Rattle.dfa_minimise.specs.Partitions.{Begins, CutsClass, IsCut, IsGrouped, IsTidy, Marks, MarksFit, members_of};
 ghost use Rattle.dfa_minimise.specs.Classes.{AreInClass};
 
 use std::alloc::{AllocError, Global};
@@ -101,7 +101,7 @@ impl Refinable {
     fn mark(&mut self, state: u32)
         requires state { state < length self.old.class.items }
         requires few { length self.old.class.items < 2 ^ 32 }
-        requires refinable { IsRefinable (length self.old.class.items) self.old.order.items self.old.place.items self.old.class.items self.old.first.items self.old.end.items }
+        requires refinable { IsGrouped self.old }
         requires fit { MarksFit self.old.first.items self.old.end.items self.old.marked.items }
         ensures { Marks (length self.old.class.items) self.old self.new state }
     {
@@ -122,7 +122,7 @@ impl Refinable {
     fn cut(&mut self, class: u32) -> Result<(), AllocError>
         requires class { class < length self.old.first.items }
         requires few { length self.old.class.items < 2 ^ 32 }
-        requires refinable { IsRefinable (length self.old.class.items) self.old.order.items self.old.place.items self.old.class.items self.old.first.items self.old.end.items }
+        requires refinable { IsGrouped self.old }
         requires fit { MarksFit self.old.first.items self.old.end.items self.old.marked.items }
         ensures { OnOk result (CutsClass self.old self.new class) }
     {

@@ -15,6 +15,7 @@ pub(crate) struct Sources<'a> {
 }
 
 impl<'a> Sources<'a> {
+    /// From where each symbol of an automaton leads to each of its states.
     pub fn of(alloc: Global, dfa: &'a Dfa) -> Result<Sources<'a>, AllocError>
         ensures sources { IfOk result (λ s. AreSources dfa.now s.last.items s.before.items) }
         ensures dfa { IfOk result (λ s. s.dfa.now ≡ dfa.now) }

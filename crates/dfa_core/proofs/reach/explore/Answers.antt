@@ -1,28 +1,21 @@
-use Rattle.std.proofs.Common.{◌≡◌, ◌*◌, ℕ, length, refl, sym, ap, ◌∙◌, arith}
+use Rattle.std.proofs.Common.{◌≡◌, ◌*◌, ℕ, length, ap, ◌∙◌, arith}
 use Rattle.std.proofs.lemmas.List.{length_push}
-use Rattle.dfa_core.proofs.Searches.{on-more, entries-more, explored-all, few-search}
+use Rattle.dfa_core.proofs.Searches.{entries-more, explored-all, few-search}
 use Rattle.dfa_core.proofs.reach.explore.Goals as goal
-
-pub number_of-requires-clause-few : goal.number_of-requires-clause-few
-number_of-requires-clause-few g c =
-    let le = few-search (g.S.System.steps c.args.system.now) _ _ _ c.steps.invariant.on.order in
-    omega (arith, c.states.type_inv, c.states.ensures, le, c.steps.search.states.ok.0)
 
 pub steps-preserved : goal.steps-preserved
 steps-preserved g c =
     let a = g.S.System.steps c.args.system.now in
     let i = c.steps.invariant in
     let next = c.steps.next.items in
+    let number = c.in_ok-number.number in
     let place : c.len-in-steps.result ≡ length next = omega (arith, c.len-in-steps.ensures, c.steps.next.ok.0) in
-    let numbers = rw place at c.in_ok-number.ensures.ok in
-    let s = on-more a c.steps.search c.number_of.new.self (length next) c.rows.at c.steps.symbol c.step-target.result c.in_ok-number.number i.on i.row i.in_states
-    (omega (arith, c.symbols-symbols.ensures)) (c.step-target.ensures.value ∙ ap (λ q. a.next q c.steps.symbol) i.state) c.step-target.ensures.bound numbers in
-    rw (c.in_ok-push.ensures.items, length_push next c.in_ok-number.number) (record {
+    let s = rw place at c.in_ok-number.ensures.ok in
+    rw (c.in_ok-push.ensures.items, length_push next number) (record {
       on = s.on;
-      entries = entries-more a c.steps.search c.number_of.new.self next c.rows.at c.steps.symbol c.in_ok-number.number s i.in_states (omega (arith, c.symbols-symbols.ensures)) i.row i.entries;
+      entries = entries-more a c.steps.search c.follow.new.self next c.rows.at c.steps.symbol number s i.in_states (omega (arith, c.symbols-symbols.ensures)) i.row i.entries;
       row = omega (arith, i.row);
       in_states = omega (arith, s.grows, i.in_states);
-      state = i.state ∙ sym (s.stay c.rows.at i.in_states);
     })
 
 pub rows-smaller : goal.rows-smaller
@@ -35,4 +28,4 @@ returns-clause-ok g c =
     let a = g.S.System.steps c.args.system.now in
     let i = c.rows.invariant in
     let same : c.rows.at ≡ length c.rows.search.states.items = omega (arith, c.rows-test.false, c.len.ensures, c.rows.search.states.ok.0, i.in_states) in
-    explored-all a _ _ _ _ i.on.order (i.rows ∙ ap (λ (n : ℕ). n * a.symbols) same) refl i.entries (omega (arith, c.states.type_inv, c.states.ensures))
+    explored-all a c.rows.search _ i.on (i.rows ∙ ap (λ (n : ℕ). n * a.symbols) same) i.entries

@@ -1,30 +1,20 @@
 use Rattle.std.proofs.Common.{◌≡◌, ◌+◌, ◌*◌, ◌<◌, ℕ, length, sym, true, false, ap, ◌∙◌, get_or, arith}
+use Rattle.std.proofs.lemmas.List.{get_or_read}
 use Rattle.dfa_core.proofs.Paths.{first-found, none-found, to}
 use Rattle.dfa_core.proofs.Places.{place_fits}
-use Rattle.dfa_core.proofs.Searches.{on-more, none-more, few-search}
+use Rattle.dfa_core.proofs.Searches.{none-more, few-search}
 use Rattle.dfa_core.proofs.reach.first_accepted.Goals.{else-number-count-via-then-number-count+else-accepting-2, else-number-count-via-else-number-count}
 use Rattle.dfa_core.proofs.reach.first_accepted.Goals as goal
 
-pub number_of-requires-clause-few : goal.number_of-requires-clause-few
-number_of-requires-clause-few g c =
-    let le = few-search (g.S.System.steps c.args.system.now) _ _ _ c.steps.invariant.on.order in
-    omega (arith, c.states.type_inv, c.states.ensures, le, c.steps.search.states.ok.0)
-
 pub trace_to-requires-clause-there : goal.trace_to-requires-clause-there
 trace_to-requires-clause-there g c =
-    let a = g.S.System.steps c.args.system.now in
-    let i = c.steps.invariant in
-    let s = on-more a c.steps.search c.number_of.new.self c.steps.place c.rows.at c.steps.symbol c.step-target.result c.in_ok-number.number i.on i.row i.in_states
-    (omega (arith, c.symbols-symbols.ensures)) (c.step-target.ensures.value ∙ ap (λ q. a.next q c.steps.symbol) i.from) c.step-target.ensures.bound c.in_ok-number.ensures.ok in
-    omega (arith, s.bound, s.on.order.found_length, c.number_of.new.self.found.ok.0)
+    let s = c.in_ok-number.ensures.ok in
+    omega (arith, s.bound, s.on.order.found_length, c.follow.new.self.found.ok.0)
 
 pub trace_to-requires-clause-earlier : goal.trace_to-requires-clause-earlier
 trace_to-requires-clause-earlier g c =
-    let a = g.S.System.steps c.args.system.now in
-    let i = c.steps.invariant in
-    let s = on-more a c.steps.search c.number_of.new.self c.steps.place c.rows.at c.steps.symbol c.step-target.result c.in_ok-number.number i.on i.row i.in_states
-    (omega (arith, c.symbols-symbols.ensures)) (c.step-target.ensures.value ∙ ap (λ q. a.next q c.steps.symbol) i.from) c.step-target.ensures.bound c.in_ok-number.ensures.ok in
-    rw c.symbols-symbols.ensures (λ t p l. s.on.order.found_earlier t p (omega (arith, l, s.on.order.found_length, c.number_of.new.self.found.ok.0)))
+    let s = c.in_ok-number.ensures.ok in
+    rw c.symbols-symbols.ensures (λ t p l. s.on.order.found_earlier t p (omega (arith, l, s.on.order.found_length, c.follow.new.self.found.ok.0)))
 
 pub returns-then-accepting-2-clause-ok : goal.returns-then-accepting-2-clause-ok
 unfolding to
@@ -32,23 +22,23 @@ returns-then-accepting-2-clause-ok g c =
     let a = g.S.System.steps c.args.system.now in
     let i = c.steps.invariant in
     let old = c.steps.search in
-    let new = c.number_of.new.self in
+    let new = c.follow.new.self in
     let number = c.in_ok-number.number in
-    let target : c.step-target.result ≡ a.next (get_or old.states.items c.rows.at 0) c.steps.symbol = c.step-target.ensures.value ∙ ap (λ q. a.next q c.steps.symbol) i.from in
-    let s = on-more a old new c.steps.place c.rows.at c.steps.symbol c.step-target.result number i.on i.row i.in_states
-    (omega (arith, c.symbols-symbols.ensures)) target c.step-target.ensures.bound c.in_ok-number.ensures.ok in
-    let ok : a.accepting (get_or new.states.items number 0) ≡ true = ap a.accepting (s.is ∙ sym target) ∙ (sym c.accepting-then-number-count.ensures ∙ c.if-accepting-2.true) in
+    let s = c.in_ok-number.ensures.ok in
+    let last : number ≡ length old.states.items = omega (arith, c.if-number-count.true, c.len-count.ensures, old.states.ok.0) in
+    let read = get_or_read new.states.items c.len-count.result c.index.result.now (omega (arith, s.bound, c.if-number-count.true)) c.index.ensures 0 in
+    let ok : a.accepting (get_or new.states.items number 0) ≡ true =
+    ap (λ k. a.accepting (get_or new.states.items k 0)) c.if-number-count.true ∙ (ap a.accepting (sym read) ∙ (sym c.accepting-then-number-count.ensures ∙ c.if-accepting-2.true)) in
     rw (c.in_ok-trace_to.ensures.ok, c.symbols-symbols.ensures)
     (first-found a new.states.items new.found.items (c.steps.place + 1) s.on.order number s.bound ok
-    (λ k l. let lk : k < length old.states.items = omega (arith, l, c.if-number-count.true, c.len-count.ensures, old.states.ok.0) in ap a.accepting (s.stay k lk) ∙ i.none k lk))
+    (λ k l. let lk : k < length old.states.items = omega (arith, l, last) in ap a.accepting (s.stay k lk) ∙ i.none k lk))
 
 pub overflow_add-place : goal.overflow_add-place
 overflow_add-place g c =
-    let a = g.S.System.steps c.args.system.now in
     let i = c.steps.invariant in
-    let le = few-search a _ _ _ i.on.order in
-    let fits = place_fits c.rows.at c.steps.symbol (length c.steps.search.states.items) a.symbols i.in_states (omega (arith, c.symbols-symbols.ensures))
-    (omega (arith, c.states.type_inv, c.states.ensures, le)) (omega (arith, c.symbols-symbols.type_inv, c.symbols-symbols.ensures)) in
+    let le = few-search (g.S.System.steps c.args.system.now) _ _ _ i.on.order in
+    let fits = place_fits c.rows.at c.steps.symbol (length c.steps.search.states.items) (g.S.System.steps c.args.system.now).symbols i.in_states (omega (arith, c.symbols-symbols.ensures))
+    (omega (arith, i.on.fits, le)) (omega (arith, c.symbols-symbols.type_inv, c.symbols-symbols.ensures)) in
     omega (arith, fits, i.row)
 
 pub steps-preserved : goal.steps-preserved
@@ -56,13 +46,13 @@ steps-preserved g c =
     let a = g.S.System.steps c.args.system.now in
     let i = c.steps.invariant in
     let old = c.steps.search in
-    let new = c.number_of.new.self in
+    let new = c.follow.new.self in
     let number = c.in_ok-number.number in
-    let target : c.step-target.result ≡ a.next (get_or old.states.items c.rows.at 0) c.steps.symbol = c.step-target.ensures.value ∙ ap (λ q. a.next q c.steps.symbol) i.from in
-    let s = on-more a old new c.steps.place c.rows.at c.steps.symbol c.step-target.result number i.on i.row i.in_states
-    (omega (arith, c.symbols-symbols.ensures)) target c.step-target.ensures.bound c.in_ok-number.ensures.ok in
-    let fresh : number ≡ length old.states.items → a.accepting (a.next (get_or old.states.items c.rows.at 0) c.steps.symbol) ≡ false = λ e. elim c.else-number-count.branch [
-      | else-number-count-via-then-number-count+else-accepting-2 w ↦ ap a.accepting (sym target) ∙ (sym w.accepting-then-number-count.ensures ∙ w.if-accepting-2.false)
+    let s = c.in_ok-number.ensures.ok in
+    let fresh : number ≡ length old.states.items → a.accepting (get_or new.states.items number 0) ≡ false = λ e. elim c.else-number-count.branch [
+      | else-number-count-via-then-number-count+else-accepting-2 w ↦
+          let read = get_or_read new.states.items c.len-count.result w.index.result.now (omega (arith, s.bound, w.if-number-count.true)) w.index.ensures 0 in
+          ap (λ k. a.accepting (get_or new.states.items k 0)) w.if-number-count.true ∙ (ap a.accepting (sym read) ∙ (sym w.accepting-then-number-count.ensures ∙ w.if-accepting-2.false))
       | else-number-count-via-else-number-count w ↦ absurd (omega (arith, e, w.if-number-count.false, c.len-count.ensures, old.states.ok.0))
     ] in
     record {
@@ -70,7 +60,6 @@ steps-preserved g c =
       none = none-more a old new c.steps.place c.rows.at c.steps.symbol number s i.none fresh;
       row = omega (arith, i.row);
       in_states = omega (arith, s.grows, i.in_states);
-      from = i.from ∙ sym (s.stay c.rows.at i.in_states);
     }
 
 pub rows-smaller : goal.rows-smaller

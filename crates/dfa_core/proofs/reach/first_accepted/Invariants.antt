@@ -16,7 +16,6 @@ invariant-steps g l = record {
   none : (k : ℕ) → k < length l.search.states.items → (g.S.System.steps l.system).accepting (get_or l.search.states.items k 0) ≡ false;
   row : l.place ≡ l.at * (g.S.System.steps l.system).symbols + l.symbol;
   in_states : l.at < length l.search.states.items;
-  from : l.from ≡ get_or l.search.states.items l.at 0;
 }
 
 abbrev pub decreases-rows : goal.decreases-rows

@@ -4,4 +4,6 @@
 #[cfg(test)]
 mod automata;
 #[cfg(test)]
+mod reports;
+#[cfg(test)]
 mod tests;

@@ -19,22 +19,22 @@ const HALF: &str = "mine --stage consistent --support 0.5 --confidence 0 --inter
 
 /// What a run gave.
 #[derive(Drop)]
-struct Ran {
-    status: Status,
-    out: MemSink,
-    err: MemSink,
+pub(crate) struct Ran {
+    pub status: Status,
+    pub out: MemSink,
+    pub err: MemSink,
 }
 
 /// Which calls of the inputs and of the two sinks fail, and how many bytes a call moves.
 #[derive(Clone, Copy)]
-struct Outside<'a> {
-    reads: &'a [u64],
-    writes: &'a [u64],
-    lines: &'a [u64],
-    piece: u64,
+pub(crate) struct Outside<'a> {
+    pub reads: &'a [u64],
+    pub writes: &'a [u64],
+    pub lines: &'a [u64],
+    pub piece: u64,
 }
 
-const CALM: Outside<'static> = Outside {
+pub(crate) const CALM: Outside<'static> = Outside {
     reads: &[],
     writes: &[],
     lines: &[],
@@ -42,7 +42,12 @@ const CALM: Outside<'static> = Outside {
 };
 
 /// Runs the words, parted by spaces, with these bytes as standard input and as the file `log.txt`.
-fn run_with(alloc: Global, words: &str, bytes: &[u8], outside: Outside) -> Result<Ran, Fail>
+pub(crate) fn run_with(
+    alloc: Global,
+    words: &str,
+    bytes: &[u8],
+    outside: Outside,
+) -> Result<Ran, Fail>
     requires { 0 < outside.piece }
 {
     let mut list = Vec::new(alloc);

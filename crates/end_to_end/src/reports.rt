@@ -1,0 +1,130 @@
+//! Whole reports of constraints whose three scores are all 1, each list worked out by hand.
+use crate::tests::{CALM, run_with};
+use decl_base::Status;
+use std::alloc::Global;
+use std::test::Fail;
+
+/// The names as they stand in a report.
+const A: &str = "[[\"a\"]]";
+
+const B: &str = "[[\"b\"]]";
+
+const AB: &str = "[[\"a\"],[\"b\"]]";
+
+const BA: &str = "[[\"b\"],[\"a\"]]";
+
+/// The constraints of a template over these activities, one after the other, as a report lists them.
+fn push_listed(text: &mut String, template: &str, parameters: &[&str]) -> Result<(), Fail> {
+    for names in parameters {
+        if !text.ends_with("[") {
+            text.push_str(",")?;
+        }
+        text.push_str("{\"confidence\":[1,1],\"interest\":[1,1],\"parameters\":")?;
+        text.push_str(names)?;
+        text.push_str(",\"support\":[1,1],\"template\":\"")?;
+        text.push_str(template)?;
+        text.push_str("\"}")?;
+    }
+    Ok(())
+}
+
+/// A report that lists these, and ends so.
+fn report(alloc: Global, listed: &[(&str, &[&str])], end: &str) -> Result<String, Fail> {
+    let mut text = String::from_str(alloc, "{\"constraints\":[")?;
+    for (template, parameters) in listed {
+        push_listed(&mut text, template, parameters)?;
+    }
+    text.push_str(end)?;
+    Ok(text)
+}
+
+/// Of the traces ab and ab all twenty stay, at a limit that their least automata just meet.
+#[test]
+fn twenty_stay(rt: HostRuntime) -> Result<(), Fail> {
+    let want = report(
+        rt.alloc(),
+        &[
+            ("Init", &[A]),
+            ("End", &[B]),
+            ("Participation", &[A, B]),
+            ("AtMostOne", &[A, B]),
+            ("ChainSuccession", &[AB]),
+            ("AlternateSuccession", &[AB]),
+            ("Succession", &[AB]),
+            ("CoExistence", &[AB]),
+            ("ChainResponse", &[AB]),
+            ("AlternateResponse", &[AB]),
+            ("Response", &[AB]),
+            ("ChainPrecedence", &[AB]),
+            ("AlternatePrecedence", &[AB]),
+            ("Precedence", &[AB]),
+            ("RespondedExistence", &[AB, BA]),
+            ("NotSuccession", &[BA]),
+            ("NotChainSuccession", &[BA]),
+        ],
+        "],\"dropped\":[],\"events\":4,\"example\":[\"a\",\"b\"],\"tasks\":[\"a\",\"b\"],\"traces\":2}\n",
+    )?;
+    let words = "mine --stage consistent --max-states 4";
+    let ran = run_with(rt.alloc(), words, b"ab\nab\n", CALM)?;
+    assert_eq!(rt; ran.status, Status::Done);
+    assert_eq!(rt; ran.out.bytes(), want.as_str().as_bytes());
+    Ok(())
+}
+
+/// Two cases that are told in turns, with a byte order mark and a quoted name.
+const CASES: &str =
+    "\u{feff}case,activity,time\n1,\"Register, new\",2024-01-01T09:00:00\n2,\"Register, new\",2024-01-01T09:05:00\n1,Check,2024-01-01T10:00:00\n1,Pay,2024-01-01T11:00:00\n2,Check,2024-01-01T12:00:00\n2,Pay,2024-01-01T13:00:00\n";
+
+const C: &str = "[[\"Check\"]]";
+
+const P: &str = "[[\"Pay\"]]";
+
+const R: &str = "[[\"Register, new\"]]";
+
+const CP: &str = "[[\"Check\"],[\"Pay\"]]";
+
+const PC: &str = "[[\"Pay\"],[\"Check\"]]";
+
+const CR: &str = "[[\"Check\"],[\"Register, new\"]]";
+
+const RC: &str = "[[\"Register, new\"],[\"Check\"]]";
+
+const PR: &str = "[[\"Pay\"],[\"Register, new\"]]";
+
+const RP: &str = "[[\"Register, new\"],[\"Pay\"]]";
+
+#[test]
+fn forty_eight_are_candidates(rt: HostRuntime) -> Result<(), Fail> {
+    let want = report(
+        rt.alloc(),
+        &[
+            ("Init", &[R]),
+            ("End", &[P]),
+            ("Participation", &[C, P, R]),
+            ("AtMostOne", &[C, P, R]),
+            ("ChainSuccession", &[CP, RC]),
+            ("AlternateSuccession", &[CP, RC, RP]),
+            ("Succession", &[CP, RC, RP]),
+            ("CoExistence", &[CP, CR, PR]),
+            ("ChainResponse", &[CP, RC]),
+            ("AlternateResponse", &[CP, RC, RP]),
+            ("Response", &[CP, RC, RP]),
+            ("ChainPrecedence", &[CP, RC]),
+            ("AlternatePrecedence", &[CP, RC, RP]),
+            ("Precedence", &[CP, RC, RP]),
+            ("RespondedExistence", &[CP, CR, PC, PR, RC, RP]),
+            ("NotSuccession", &[CR, PC, PR]),
+            ("NotChainSuccession", &[CR, PC, PR, RP]),
+        ],
+        "],\"events\":6,\"tasks\":[\"Check\",\"Pay\",\"Register, new\"],\"traces\":2}\n",
+    )?;
+    for words in [
+        "mine --stage scores --format csv",
+        "mine --stage scores --format csv --order-column time",
+    ] {
+        let ran = run_with(rt.alloc(), words, CASES.as_bytes(), CALM)?;
+        assert_eq!(rt; ran.status, Status::Done);
+        assert_eq!(rt; ran.out.bytes(), want.as_str().as_bytes());
+    }
+    Ok(())
+}

@@ -29,16 +29,13 @@ pub fn group_of(kind: Kind) -> Group
 {
     match kind {
         Kind::Init | Kind::End | Kind::Participation | Kind::AtMostOne => Group::Existence,
-        Kind::ChainSuccession
-        | Kind::AlternateSuccession
-        | Kind::Succession
-        | Kind::CoExistence => Group::Mutual,
-        Kind::ChainResponse
-        | Kind::AlternateResponse
-        | Kind::Response
-        | Kind::RespondedExistence => Group::Relation(Activation::First),
-        Kind::ChainPrecedence | Kind::AlternatePrecedence | Kind::Precedence =>
-            Group::Relation(Activation::Second),
+        Kind::ChainSuccession | Kind::AlternateSuccession | Kind::Succession | Kind::CoExistence =>
+            Group::Mutual,
+        Kind::ChainResponse | Kind::AlternateResponse | Kind::Response | Kind::RespondedExistence =>
+            Group::Relation(Activation::First),
+        Kind::ChainPrecedence | Kind::AlternatePrecedence | Kind::Precedence => Group::Relation(
+            Activation::Second,
+        ),
         Kind::NotCoExistence | Kind::NotSuccession | Kind::NotChainSuccession => Group::Negative,
     }
 }

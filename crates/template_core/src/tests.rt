@@ -1,93 +1,73 @@
 //! The repertoire and the counters on small traces of a = 0, b = 1 and c = 2, against a table worked out by hand.
 
-ghost use Rattle.std.specs.Prelude.{◌≡◌, [], ◌∷◌, nat_eq};
+ghost use Rattle.std.specs.Prelude.{◌≡◌, ℕ, List, [], ◌∷◌, nat_eq};
 ghost use Rattle.template_core.specs.Counts.{unary_counts, pair_counts};
 ghost use Rattle.template_core.specs.Repertoire.{activated_places, fulfilled_places};
+ghost use Rattle.template_core.specs.declared.kind.Kind.{Kind as KindOf};
 ghost use Rattle.template_core.specs.declared.kind.Kind.TheVariants.{Init, End, Participation, AtMostOne, ChainSuccession, AlternateSuccession, Succession, CoExistence, ChainResponse, AlternateResponse, Response, ChainPrecedence, AlternatePrecedence, Precedence, RespondedExistence, NotCoExistence, NotSuccession, NotChainSuccession};
 
 #[tactic(auto, unfolding(crate::specs::Events::count_places))]
 fn rows_on_aacb()
-    ensures init { (activated_places nat_eq Init 0 1 (0 ∷ 0 ∷ 2 ∷ 1 ∷ []) ≡ 4 ∷ []) × (fulfilled_places nat_eq Init 0 1 (0 ∷ 0 ∷ 2 ∷ 1 ∷ []) ≡ 4 ∷ []) }
-    ensures end { (activated_places nat_eq End 0 1 (0 ∷ 0 ∷ 2 ∷ 1 ∷ []) ≡ 4 ∷ []) × (fulfilled_places nat_eq End 0 1 (0 ∷ 0 ∷ 2 ∷ 1 ∷ []) ≡ []) }
-    ensures participation { (activated_places nat_eq Participation 0 1 (0 ∷ 0 ∷ 2 ∷ 1 ∷ []) ≡ 4 ∷ []) × (fulfilled_places nat_eq Participation 0 1 (0 ∷ 0 ∷ 2 ∷ 1 ∷ []) ≡ 4 ∷ []) }
-    ensures at_most_one { (activated_places nat_eq AtMostOne 0 1 (0 ∷ 0 ∷ 2 ∷ 1 ∷ []) ≡ 4 ∷ []) × (fulfilled_places nat_eq AtMostOne 0 1 (0 ∷ 0 ∷ 2 ∷ 1 ∷ []) ≡ []) }
-    ensures chain_succession { (activated_places nat_eq ChainSuccession 0 1 (0 ∷ 0 ∷ 2 ∷ 1 ∷ []) ≡ 0 ∷ 1 ∷ 3 ∷ []) × (fulfilled_places nat_eq ChainSuccession 0 1 (0 ∷ 0 ∷ 2 ∷ 1 ∷ []) ≡ []) }
-    ensures alternate_succession { (activated_places nat_eq AlternateSuccession 0 1 (0 ∷ 0 ∷ 2 ∷ 1 ∷ []) ≡ 0 ∷ 1 ∷ 3 ∷ []) × (fulfilled_places nat_eq AlternateSuccession 0 1 (0 ∷ 0 ∷ 2 ∷ 1 ∷ []) ≡ 1 ∷ 3 ∷ []) }
-    ensures succession { (activated_places nat_eq Succession 0 1 (0 ∷ 0 ∷ 2 ∷ 1 ∷ []) ≡ 0 ∷ 1 ∷ 3 ∷ []) × (fulfilled_places nat_eq Succession 0 1 (0 ∷ 0 ∷ 2 ∷ 1 ∷ []) ≡ 0 ∷ 1 ∷ 3 ∷ []) }
-    ensures co_existence { (activated_places nat_eq CoExistence 0 1 (0 ∷ 0 ∷ 2 ∷ 1 ∷ []) ≡ 0 ∷ 1 ∷ 3 ∷ []) × (fulfilled_places nat_eq CoExistence 0 1 (0 ∷ 0 ∷ 2 ∷ 1 ∷ []) ≡ 0 ∷ 1 ∷ 3 ∷ []) }
-    ensures chain_response { (activated_places nat_eq ChainResponse 0 1 (0 ∷ 0 ∷ 2 ∷ 1 ∷ []) ≡ 0 ∷ 1 ∷ []) × (fulfilled_places nat_eq ChainResponse 0 1 (0 ∷ 0 ∷ 2 ∷ 1 ∷ []) ≡ []) }
-    ensures alternate_response { (activated_places nat_eq AlternateResponse 0 1 (0 ∷ 0 ∷ 2 ∷ 1 ∷ []) ≡ 0 ∷ 1 ∷ []) × (fulfilled_places nat_eq AlternateResponse 0 1 (0 ∷ 0 ∷ 2 ∷ 1 ∷ []) ≡ 1 ∷ []) }
-    ensures response { (activated_places nat_eq Response 0 1 (0 ∷ 0 ∷ 2 ∷ 1 ∷ []) ≡ 0 ∷ 1 ∷ []) × (fulfilled_places nat_eq Response 0 1 (0 ∷ 0 ∷ 2 ∷ 1 ∷ []) ≡ 0 ∷ 1 ∷ []) }
-    ensures chain_precedence { (activated_places nat_eq ChainPrecedence 0 1 (0 ∷ 0 ∷ 2 ∷ 1 ∷ []) ≡ 3 ∷ []) × (fulfilled_places nat_eq ChainPrecedence 0 1 (0 ∷ 0 ∷ 2 ∷ 1 ∷ []) ≡ []) }
-    ensures alternate_precedence { (activated_places nat_eq AlternatePrecedence 0 1 (0 ∷ 0 ∷ 2 ∷ 1 ∷ []) ≡ 3 ∷ []) × (fulfilled_places nat_eq AlternatePrecedence 0 1 (0 ∷ 0 ∷ 2 ∷ 1 ∷ []) ≡ 3 ∷ []) }
-    ensures precedence { (activated_places nat_eq Precedence 0 1 (0 ∷ 0 ∷ 2 ∷ 1 ∷ []) ≡ 3 ∷ []) × (fulfilled_places nat_eq Precedence 0 1 (0 ∷ 0 ∷ 2 ∷ 1 ∷ []) ≡ 3 ∷ []) }
-    ensures responded_existence { (activated_places nat_eq RespondedExistence 0 1 (0 ∷ 0 ∷ 2 ∷ 1 ∷ []) ≡ 0 ∷ 1 ∷ []) × (fulfilled_places nat_eq RespondedExistence 0 1 (0 ∷ 0 ∷ 2 ∷ 1 ∷ []) ≡ 0 ∷ 1 ∷ []) }
-    ensures not_co_existence { (activated_places nat_eq NotCoExistence 0 1 (0 ∷ 0 ∷ 2 ∷ 1 ∷ []) ≡ 0 ∷ 1 ∷ 3 ∷ []) × (fulfilled_places nat_eq NotCoExistence 0 1 (0 ∷ 0 ∷ 2 ∷ 1 ∷ []) ≡ []) }
-    ensures not_succession { (activated_places nat_eq NotSuccession 0 1 (0 ∷ 0 ∷ 2 ∷ 1 ∷ []) ≡ 0 ∷ 1 ∷ 3 ∷ []) × (fulfilled_places nat_eq NotSuccession 0 1 (0 ∷ 0 ∷ 2 ∷ 1 ∷ []) ≡ []) }
-    ensures not_chain_succession { (activated_places nat_eq NotChainSuccession 0 1 (0 ∷ 0 ∷ 2 ∷ 1 ∷ []) ≡ 0 ∷ 1 ∷ 3 ∷ []) × (fulfilled_places nat_eq NotChainSuccession 0 1 (0 ∷ 0 ∷ 2 ∷ 1 ∷ []) ≡ 0 ∷ 1 ∷ 3 ∷ []) }
+    ensures activated { let at : KindOf → List ℕ = λ kind. activated_places nat_eq kind 0 1 (0 ∷ 0 ∷ 2 ∷ 1 ∷ []) in
+        (at Init ≡ 4 ∷ []) × (at End ≡ 4 ∷ []) × (at Participation ≡ 4 ∷ []) × (at AtMostOne ≡ 4 ∷ [])
+        × (at ChainSuccession ≡ 0 ∷ 1 ∷ 3 ∷ []) × (at AlternateSuccession ≡ 0 ∷ 1 ∷ 3 ∷ []) × (at Succession ≡ 0 ∷ 1 ∷ 3 ∷ []) × (at CoExistence ≡ 0 ∷ 1 ∷ 3 ∷ [])
+        × (at ChainResponse ≡ 0 ∷ 1 ∷ []) × (at AlternateResponse ≡ 0 ∷ 1 ∷ []) × (at Response ≡ 0 ∷ 1 ∷ []) × (at RespondedExistence ≡ 0 ∷ 1 ∷ [])
+        × (at ChainPrecedence ≡ 3 ∷ []) × (at AlternatePrecedence ≡ 3 ∷ []) × (at Precedence ≡ 3 ∷ []) × (at NotCoExistence ≡ 0 ∷ 1 ∷ 3 ∷ [])
+        × (at NotSuccession ≡ 0 ∷ 1 ∷ 3 ∷ []) × (at NotChainSuccession ≡ 0 ∷ 1 ∷ 3 ∷ []) }
+    ensures existence { let at : KindOf → List ℕ = λ kind. fulfilled_places nat_eq kind 0 1 (0 ∷ 0 ∷ 2 ∷ 1 ∷ []) in
+        (at Init ≡ 4 ∷ []) × (at End ≡ []) × (at Participation ≡ 4 ∷ []) × (at AtMostOne ≡ []) }
+    ensures mutual { let at : KindOf → List ℕ = λ kind. fulfilled_places nat_eq kind 0 1 (0 ∷ 0 ∷ 2 ∷ 1 ∷ []) in
+        (at ChainSuccession ≡ []) × (at AlternateSuccession ≡ 1 ∷ 3 ∷ []) × (at Succession ≡ 0 ∷ 1 ∷ 3 ∷ []) × (at CoExistence ≡ 0 ∷ 1 ∷ 3 ∷ []) }
+    ensures response { let at : KindOf → List ℕ = λ kind. fulfilled_places nat_eq kind 0 1 (0 ∷ 0 ∷ 2 ∷ 1 ∷ []) in
+        (at ChainResponse ≡ []) × (at AlternateResponse ≡ 1 ∷ []) × (at Response ≡ 0 ∷ 1 ∷ []) × (at RespondedExistence ≡ 0 ∷ 1 ∷ []) }
+    ensures precedence { let at : KindOf → List ℕ = λ kind. fulfilled_places nat_eq kind 0 1 (0 ∷ 0 ∷ 2 ∷ 1 ∷ []) in
+        (at ChainPrecedence ≡ []) × (at AlternatePrecedence ≡ 3 ∷ []) × (at Precedence ≡ 3 ∷ []) }
+    ensures negative { let at : KindOf → List ℕ = λ kind. fulfilled_places nat_eq kind 0 1 (0 ∷ 0 ∷ 2 ∷ 1 ∷ []) in
+        (at NotCoExistence ≡ []) × (at NotSuccession ≡ []) × (at NotChainSuccession ≡ 0 ∷ 1 ∷ 3 ∷ []) }
 {}
 
 #[tactic(auto, unfolding(crate::specs::Events::count_places))]
 fn rows_on_babb()
-    ensures init { (activated_places nat_eq Init 0 1 (1 ∷ 0 ∷ 1 ∷ 1 ∷ []) ≡ 4 ∷ []) × (fulfilled_places nat_eq Init 0 1 (1 ∷ 0 ∷ 1 ∷ 1 ∷ []) ≡ []) }
-    ensures end { (activated_places nat_eq End 0 1 (1 ∷ 0 ∷ 1 ∷ 1 ∷ []) ≡ 4 ∷ []) × (fulfilled_places nat_eq End 0 1 (1 ∷ 0 ∷ 1 ∷ 1 ∷ []) ≡ []) }
-    ensures participation { (activated_places nat_eq Participation 0 1 (1 ∷ 0 ∷ 1 ∷ 1 ∷ []) ≡ 4 ∷ []) × (fulfilled_places nat_eq Participation 0 1 (1 ∷ 0 ∷ 1 ∷ 1 ∷ []) ≡ 4 ∷ []) }
-    ensures at_most_one { (activated_places nat_eq AtMostOne 0 1 (1 ∷ 0 ∷ 1 ∷ 1 ∷ []) ≡ 4 ∷ []) × (fulfilled_places nat_eq AtMostOne 0 1 (1 ∷ 0 ∷ 1 ∷ 1 ∷ []) ≡ 4 ∷ []) }
-    ensures chain_succession { (activated_places nat_eq ChainSuccession 0 1 (1 ∷ 0 ∷ 1 ∷ 1 ∷ []) ≡ 0 ∷ 1 ∷ 2 ∷ 3 ∷ []) × (fulfilled_places nat_eq ChainSuccession 0 1 (1 ∷ 0 ∷ 1 ∷ 1 ∷ []) ≡ 1 ∷ 2 ∷ []) }
-    ensures alternate_succession { (activated_places nat_eq AlternateSuccession 0 1 (1 ∷ 0 ∷ 1 ∷ 1 ∷ []) ≡ 0 ∷ 1 ∷ 2 ∷ 3 ∷ []) × (fulfilled_places nat_eq AlternateSuccession 0 1 (1 ∷ 0 ∷ 1 ∷ 1 ∷ []) ≡ 1 ∷ 2 ∷ []) }
-    ensures succession { (activated_places nat_eq Succession 0 1 (1 ∷ 0 ∷ 1 ∷ 1 ∷ []) ≡ 0 ∷ 1 ∷ 2 ∷ 3 ∷ []) × (fulfilled_places nat_eq Succession 0 1 (1 ∷ 0 ∷ 1 ∷ 1 ∷ []) ≡ 1 ∷ 2 ∷ 3 ∷ []) }
-    ensures co_existence { (activated_places nat_eq CoExistence 0 1 (1 ∷ 0 ∷ 1 ∷ 1 ∷ []) ≡ 0 ∷ 1 ∷ 2 ∷ 3 ∷ []) × (fulfilled_places nat_eq CoExistence 0 1 (1 ∷ 0 ∷ 1 ∷ 1 ∷ []) ≡ 0 ∷ 1 ∷ 2 ∷ 3 ∷ []) }
-    ensures chain_response { (activated_places nat_eq ChainResponse 0 1 (1 ∷ 0 ∷ 1 ∷ 1 ∷ []) ≡ 1 ∷ []) × (fulfilled_places nat_eq ChainResponse 0 1 (1 ∷ 0 ∷ 1 ∷ 1 ∷ []) ≡ 1 ∷ []) }
-    ensures alternate_response { (activated_places nat_eq AlternateResponse 0 1 (1 ∷ 0 ∷ 1 ∷ 1 ∷ []) ≡ 1 ∷ []) × (fulfilled_places nat_eq AlternateResponse 0 1 (1 ∷ 0 ∷ 1 ∷ 1 ∷ []) ≡ 1 ∷ []) }
-    ensures response { (activated_places nat_eq Response 0 1 (1 ∷ 0 ∷ 1 ∷ 1 ∷ []) ≡ 1 ∷ []) × (fulfilled_places nat_eq Response 0 1 (1 ∷ 0 ∷ 1 ∷ 1 ∷ []) ≡ 1 ∷ []) }
-    ensures chain_precedence { (activated_places nat_eq ChainPrecedence 0 1 (1 ∷ 0 ∷ 1 ∷ 1 ∷ []) ≡ 0 ∷ 2 ∷ 3 ∷ []) × (fulfilled_places nat_eq ChainPrecedence 0 1 (1 ∷ 0 ∷ 1 ∷ 1 ∷ []) ≡ 2 ∷ []) }
-    ensures alternate_precedence { (activated_places nat_eq AlternatePrecedence 0 1 (1 ∷ 0 ∷ 1 ∷ 1 ∷ []) ≡ 0 ∷ 2 ∷ 3 ∷ []) × (fulfilled_places nat_eq AlternatePrecedence 0 1 (1 ∷ 0 ∷ 1 ∷ 1 ∷ []) ≡ 2 ∷ []) }
-    ensures precedence { (activated_places nat_eq Precedence 0 1 (1 ∷ 0 ∷ 1 ∷ 1 ∷ []) ≡ 0 ∷ 2 ∷ 3 ∷ []) × (fulfilled_places nat_eq Precedence 0 1 (1 ∷ 0 ∷ 1 ∷ 1 ∷ []) ≡ 2 ∷ 3 ∷ []) }
-    ensures responded_existence { (activated_places nat_eq RespondedExistence 0 1 (1 ∷ 0 ∷ 1 ∷ 1 ∷ []) ≡ 1 ∷ []) × (fulfilled_places nat_eq RespondedExistence 0 1 (1 ∷ 0 ∷ 1 ∷ 1 ∷ []) ≡ 1 ∷ []) }
-    ensures not_co_existence { (activated_places nat_eq NotCoExistence 0 1 (1 ∷ 0 ∷ 1 ∷ 1 ∷ []) ≡ 0 ∷ 1 ∷ 2 ∷ 3 ∷ []) × (fulfilled_places nat_eq NotCoExistence 0 1 (1 ∷ 0 ∷ 1 ∷ 1 ∷ []) ≡ []) }
-    ensures not_succession { (activated_places nat_eq NotSuccession 0 1 (1 ∷ 0 ∷ 1 ∷ 1 ∷ []) ≡ 0 ∷ 1 ∷ 2 ∷ 3 ∷ []) × (fulfilled_places nat_eq NotSuccession 0 1 (1 ∷ 0 ∷ 1 ∷ 1 ∷ []) ≡ 0 ∷ []) }
-    ensures not_chain_succession { (activated_places nat_eq NotChainSuccession 0 1 (1 ∷ 0 ∷ 1 ∷ 1 ∷ []) ≡ 0 ∷ 1 ∷ 2 ∷ 3 ∷ []) × (fulfilled_places nat_eq NotChainSuccession 0 1 (1 ∷ 0 ∷ 1 ∷ 1 ∷ []) ≡ 0 ∷ 3 ∷ []) }
+    ensures existence { let at : KindOf → List ℕ = λ kind. fulfilled_places nat_eq kind 0 1 (1 ∷ 0 ∷ 1 ∷ 1 ∷ []) in
+        (at Init ≡ []) × (at End ≡ []) × (at Participation ≡ 4 ∷ []) × (at AtMostOne ≡ 4 ∷ []) }
+    ensures mutual { let at : KindOf → List ℕ = λ kind. fulfilled_places nat_eq kind 0 1 (1 ∷ 0 ∷ 1 ∷ 1 ∷ []) in
+        (at ChainSuccession ≡ 1 ∷ 2 ∷ []) × (at AlternateSuccession ≡ 1 ∷ 2 ∷ []) × (at Succession ≡ 1 ∷ 2 ∷ 3 ∷ []) × (at CoExistence ≡ 0 ∷ 1 ∷ 2 ∷ 3 ∷ []) }
+    ensures response { let at : KindOf → List ℕ = λ kind. fulfilled_places nat_eq kind 0 1 (1 ∷ 0 ∷ 1 ∷ 1 ∷ []) in
+        (at ChainResponse ≡ 1 ∷ []) × (at AlternateResponse ≡ 1 ∷ []) × (at Response ≡ 1 ∷ []) × (at RespondedExistence ≡ 1 ∷ []) }
+    ensures precedence { let at : KindOf → List ℕ = λ kind. fulfilled_places nat_eq kind 0 1 (1 ∷ 0 ∷ 1 ∷ 1 ∷ []) in
+        (at ChainPrecedence ≡ 2 ∷ []) × (at AlternatePrecedence ≡ 2 ∷ []) × (at Precedence ≡ 2 ∷ 3 ∷ []) }
+    ensures negative { let at : KindOf → List ℕ = λ kind. fulfilled_places nat_eq kind 0 1 (1 ∷ 0 ∷ 1 ∷ 1 ∷ []) in
+        (at NotCoExistence ≡ []) × (at NotSuccession ≡ 0 ∷ []) × (at NotChainSuccession ≡ 0 ∷ 3 ∷ []) }
 {}
 
 #[tactic(auto, unfolding(crate::specs::Events::count_places))]
 fn rows_on_ba()
-    ensures init { (activated_places nat_eq Init 0 1 (1 ∷ 0 ∷ []) ≡ 2 ∷ []) × (fulfilled_places nat_eq Init 0 1 (1 ∷ 0 ∷ []) ≡ []) }
-    ensures end { (activated_places nat_eq End 0 1 (1 ∷ 0 ∷ []) ≡ 2 ∷ []) × (fulfilled_places nat_eq End 0 1 (1 ∷ 0 ∷ []) ≡ 2 ∷ []) }
-    ensures participation { (activated_places nat_eq Participation 0 1 (1 ∷ 0 ∷ []) ≡ 2 ∷ []) × (fulfilled_places nat_eq Participation 0 1 (1 ∷ 0 ∷ []) ≡ 2 ∷ []) }
-    ensures at_most_one { (activated_places nat_eq AtMostOne 0 1 (1 ∷ 0 ∷ []) ≡ 2 ∷ []) × (fulfilled_places nat_eq AtMostOne 0 1 (1 ∷ 0 ∷ []) ≡ 2 ∷ []) }
-    ensures chain_succession { (activated_places nat_eq ChainSuccession 0 1 (1 ∷ 0 ∷ []) ≡ 0 ∷ 1 ∷ []) × (fulfilled_places nat_eq ChainSuccession 0 1 (1 ∷ 0 ∷ []) ≡ []) }
-    ensures alternate_succession { (activated_places nat_eq AlternateSuccession 0 1 (1 ∷ 0 ∷ []) ≡ 0 ∷ 1 ∷ []) × (fulfilled_places nat_eq AlternateSuccession 0 1 (1 ∷ 0 ∷ []) ≡ []) }
-    ensures succession { (activated_places nat_eq Succession 0 1 (1 ∷ 0 ∷ []) ≡ 0 ∷ 1 ∷ []) × (fulfilled_places nat_eq Succession 0 1 (1 ∷ 0 ∷ []) ≡ []) }
-    ensures co_existence { (activated_places nat_eq CoExistence 0 1 (1 ∷ 0 ∷ []) ≡ 0 ∷ 1 ∷ []) × (fulfilled_places nat_eq CoExistence 0 1 (1 ∷ 0 ∷ []) ≡ 0 ∷ 1 ∷ []) }
-    ensures chain_response { (activated_places nat_eq ChainResponse 0 1 (1 ∷ 0 ∷ []) ≡ 1 ∷ []) × (fulfilled_places nat_eq ChainResponse 0 1 (1 ∷ 0 ∷ []) ≡ []) }
-    ensures alternate_response { (activated_places nat_eq AlternateResponse 0 1 (1 ∷ 0 ∷ []) ≡ 1 ∷ []) × (fulfilled_places nat_eq AlternateResponse 0 1 (1 ∷ 0 ∷ []) ≡ []) }
-    ensures response { (activated_places nat_eq Response 0 1 (1 ∷ 0 ∷ []) ≡ 1 ∷ []) × (fulfilled_places nat_eq Response 0 1 (1 ∷ 0 ∷ []) ≡ []) }
-    ensures chain_precedence { (activated_places nat_eq ChainPrecedence 0 1 (1 ∷ 0 ∷ []) ≡ 0 ∷ []) × (fulfilled_places nat_eq ChainPrecedence 0 1 (1 ∷ 0 ∷ []) ≡ []) }
-    ensures alternate_precedence { (activated_places nat_eq AlternatePrecedence 0 1 (1 ∷ 0 ∷ []) ≡ 0 ∷ []) × (fulfilled_places nat_eq AlternatePrecedence 0 1 (1 ∷ 0 ∷ []) ≡ []) }
-    ensures precedence { (activated_places nat_eq Precedence 0 1 (1 ∷ 0 ∷ []) ≡ 0 ∷ []) × (fulfilled_places nat_eq Precedence 0 1 (1 ∷ 0 ∷ []) ≡ []) }
-    ensures responded_existence { (activated_places nat_eq RespondedExistence 0 1 (1 ∷ 0 ∷ []) ≡ 1 ∷ []) × (fulfilled_places nat_eq RespondedExistence 0 1 (1 ∷ 0 ∷ []) ≡ 1 ∷ []) }
-    ensures not_co_existence { (activated_places nat_eq NotCoExistence 0 1 (1 ∷ 0 ∷ []) ≡ 0 ∷ 1 ∷ []) × (fulfilled_places nat_eq NotCoExistence 0 1 (1 ∷ 0 ∷ []) ≡ []) }
-    ensures not_succession { (activated_places nat_eq NotSuccession 0 1 (1 ∷ 0 ∷ []) ≡ 0 ∷ 1 ∷ []) × (fulfilled_places nat_eq NotSuccession 0 1 (1 ∷ 0 ∷ []) ≡ 0 ∷ 1 ∷ []) }
-    ensures not_chain_succession { (activated_places nat_eq NotChainSuccession 0 1 (1 ∷ 0 ∷ []) ≡ 0 ∷ 1 ∷ []) × (fulfilled_places nat_eq NotChainSuccession 0 1 (1 ∷ 0 ∷ []) ≡ 0 ∷ 1 ∷ []) }
+    ensures existence { let at : KindOf → List ℕ = λ kind. fulfilled_places nat_eq kind 0 1 (1 ∷ 0 ∷ []) in
+        (at Init ≡ []) × (at End ≡ 2 ∷ []) × (at Participation ≡ 2 ∷ []) × (at AtMostOne ≡ 2 ∷ []) }
+    ensures mutual { let at : KindOf → List ℕ = λ kind. fulfilled_places nat_eq kind 0 1 (1 ∷ 0 ∷ []) in
+        (at ChainSuccession ≡ []) × (at AlternateSuccession ≡ []) × (at Succession ≡ []) × (at CoExistence ≡ 0 ∷ 1 ∷ []) }
+    ensures response { let at : KindOf → List ℕ = λ kind. fulfilled_places nat_eq kind 0 1 (1 ∷ 0 ∷ []) in
+        (at ChainResponse ≡ []) × (at AlternateResponse ≡ []) × (at Response ≡ []) × (at RespondedExistence ≡ 1 ∷ []) }
+    ensures precedence { let at : KindOf → List ℕ = λ kind. fulfilled_places nat_eq kind 0 1 (1 ∷ 0 ∷ []) in
+        (at ChainPrecedence ≡ []) × (at AlternatePrecedence ≡ []) × (at Precedence ≡ []) }
+    ensures negative { let at : KindOf → List ℕ = λ kind. fulfilled_places nat_eq kind 0 1 (1 ∷ 0 ∷ []) in
+        (at NotCoExistence ≡ []) × (at NotSuccession ≡ 0 ∷ 1 ∷ []) × (at NotChainSuccession ≡ 0 ∷ 1 ∷ []) }
 {}
 
 #[tactic(auto, unfolding(crate::specs::Events::count_places))]
 fn rows_on_the_empty_trace()
-    ensures init { (activated_places nat_eq Init 0 1 [] ≡ 0 ∷ []) × (fulfilled_places nat_eq Init 0 1 [] ≡ []) }
-    ensures end { (activated_places nat_eq End 0 1 [] ≡ 0 ∷ []) × (fulfilled_places nat_eq End 0 1 [] ≡ []) }
-    ensures participation { (activated_places nat_eq Participation 0 1 [] ≡ 0 ∷ []) × (fulfilled_places nat_eq Participation 0 1 [] ≡ []) }
-    ensures at_most_one { (activated_places nat_eq AtMostOne 0 1 [] ≡ 0 ∷ []) × (fulfilled_places nat_eq AtMostOne 0 1 [] ≡ 0 ∷ []) }
-    ensures not_co_existence { (activated_places nat_eq NotCoExistence 0 1 [] ≡ []) × (fulfilled_places nat_eq NotCoExistence 0 1 [] ≡ []) }
-    ensures response { (activated_places nat_eq Response 0 1 [] ≡ []) × (fulfilled_places nat_eq Response 0 1 [] ≡ []) }
+    ensures activated { let at : KindOf → List ℕ = λ kind. activated_places nat_eq kind 0 1 [] in
+        (at Init ≡ 0 ∷ []) × (at End ≡ 0 ∷ []) × (at Participation ≡ 0 ∷ []) × (at AtMostOne ≡ 0 ∷ []) × (at NotCoExistence ≡ []) × (at Response ≡ []) }
+    ensures fulfilled { let at : KindOf → List ℕ = λ kind. fulfilled_places nat_eq kind 0 1 [] in
+        (at Init ≡ []) × (at End ≡ []) × (at Participation ≡ []) × (at AtMostOne ≡ 0 ∷ []) × (at NotCoExistence ≡ []) × (at Response ≡ []) }
 {}
 
 #[tactic(auto, unfolding(crate::specs::Events::count_places))]
 fn rows_on_a()
-    ensures init { (activated_places nat_eq Init 0 1 (0 ∷ []) ≡ 1 ∷ []) × (fulfilled_places nat_eq Init 0 1 (0 ∷ []) ≡ 1 ∷ []) }
-    ensures end { (activated_places nat_eq End 0 1 (0 ∷ []) ≡ 1 ∷ []) × (fulfilled_places nat_eq End 0 1 (0 ∷ []) ≡ 1 ∷ []) }
-    ensures co_existence { (activated_places nat_eq CoExistence 0 1 (0 ∷ []) ≡ 0 ∷ []) × (fulfilled_places nat_eq CoExistence 0 1 (0 ∷ []) ≡ []) }
-    ensures responded_existence { (activated_places nat_eq RespondedExistence 0 1 (0 ∷ []) ≡ 0 ∷ []) × (fulfilled_places nat_eq RespondedExistence 0 1 (0 ∷ []) ≡ []) }
-    ensures not_co_existence { (activated_places nat_eq NotCoExistence 0 1 (0 ∷ []) ≡ 0 ∷ []) × (fulfilled_places nat_eq NotCoExistence 0 1 (0 ∷ []) ≡ 0 ∷ []) }
+    ensures activated { let at : KindOf → List ℕ = λ kind. activated_places nat_eq kind 0 1 (0 ∷ []) in
+        (at Init ≡ 1 ∷ []) × (at End ≡ 1 ∷ []) × (at CoExistence ≡ 0 ∷ []) × (at RespondedExistence ≡ 0 ∷ []) × (at NotCoExistence ≡ 0 ∷ []) }
+    ensures fulfilled { let at : KindOf → List ℕ = λ kind. fulfilled_places nat_eq kind 0 1 (0 ∷ []) in
+        (at Init ≡ 1 ∷ []) × (at End ≡ 1 ∷ []) × (at CoExistence ≡ []) × (at RespondedExistence ≡ []) × (at NotCoExistence ≡ 0 ∷ []) }
 {}
 
 #[tactic(auto, unfolding(crate::specs::Events::count_places))]

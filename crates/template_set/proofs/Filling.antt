@@ -18,14 +18,6 @@ pub record IsFilled (next_state : ℕ → Class → ℕ) (is_accepting : ℕ →
   pub below : (s : ℕ) (class : Class) → s < k → next_state s class < states
   pub marks : (s : ℕ) → s < k → slice_index_or accepting s false ≡ is_accepting s
 
-pub nothing_filled : (next_state : ℕ → Class → ℕ) (is_accepting : ℕ → Bool) (states : ℕ) (next : List (List ℕ)) (accepting : List Bool)
-    → IsFilled next_state is_accepting states 0 next accepting
-nothing_filled next_state is_accepting states next accepting = record {
-  rows = λ s class h. absurd (omega arith);
-  below = λ s class h. absurd (omega arith);
-  marks = λ s h. absurd (omega arith);
-}
-
 pub one_more : (next_state : ℕ → Class → ℕ) (is_accepting : ℕ → Bool) (states k : ℕ) (next : List (List ℕ)) (accepting : List Bool) (x y z : ℕ) (v : Bool)
     → IsFilled next_state is_accepting states k next accepting → k < length next → k < length accepting
     → x ≡ next_state k First → y ≡ next_state k Second → z ≡ next_state k Other → x < states → y < states → z < states → v ≡ is_accepting k

@@ -1,3 +1,4 @@
+-- Meaning: the hierarchy; a template's names, its numbers over a log, and its table.
 pub mod Hierarchy
 pub mod Names
 pub mod Numbers

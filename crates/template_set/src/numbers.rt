@@ -5,7 +5,7 @@ ghost use Rattle.template_core.specs.Repertoire.{activated, fulfilled};
 ghost use Rattle.template_set.specs.Numbers.{numbers_of};
 
 use crate::dispatch::with_template;
-use template_core::{Counts, Kind, Template};
+use template_core::{Activation, Counts, Group, Kind, Template, group_of};
 use templates_neg::{NotChainSuccession, NotCoExistence, NotSuccession};
 use templates_pair::{
     AlternatePrecedence, AlternateResponse, AlternateSuccession, ChainPrecedence, ChainResponse,
@@ -68,7 +68,7 @@ struct Traces {
     target: u64,
 }
 
-/// By the group of the template: existence, relation, mutual or negative.
+/// By the group of the template.
 fn traces_of(kind: Kind, counts: &Counts) -> Traces
     requires { AreCounts kind counts.now }
     ensures traces { (a b : ℕ) (log : List (List ℕ)) → IsWellMade kind a b → counts.now ≡ counts_of kind a b log
@@ -78,27 +78,20 @@ fn traces_of(kind: Kind, counts: &Counts) -> Traces
 {
     let first = counts.first.traces;
     let second = counts.second.traces;
-    match kind {
-        Kind::Init | Kind::End | Kind::Participation | Kind::AtMostOne => Traces {
+    match group_of(kind) {
+        Group::Existence => Traces {
             traces: counts.traces,
             target: first,
         },
-        Kind::ChainResponse | Kind::AlternateResponse | Kind::Response | Kind::RespondedExistence =>
-            Traces {
-                traces: first,
-                target: second,
-            },
-        Kind::ChainPrecedence | Kind::AlternatePrecedence | Kind::Precedence => Traces {
+        Group::Relation(Activation::First) => Traces {
+            traces: first,
+            target: second,
+        },
+        Group::Relation(Activation::Second) => Traces {
             traces: second,
             target: first,
         },
-        Kind::ChainSuccession
-        | Kind::AlternateSuccession
-        | Kind::Succession
-        | Kind::CoExistence
-        | Kind::NotCoExistence
-        | Kind::NotSuccession
-        | Kind::NotChainSuccession => Traces {
+        Group::Mutual | Group::Negative => Traces {
             traces: first + second - counts.onward.together,
             target: first.min(second),
         },

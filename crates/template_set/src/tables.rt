@@ -1,5 +1,6 @@
+ghost use Rattle.std.specs.Prelude.{◌≤◌};
 ghost use Rattle.template_core.specs.Tables.{IsTable};
-ghost use Rattle.template_set.specs.Tables.{IsTableBy, Accepts, IsLeastTable};
+ghost use Rattle.template_set.specs.Tables.{IsTableBy, Accepts, IsLeastTable, most_states};
 
 use crate::dispatch::with_template;
 use template_core::{Class, Kind, Table, Template};
@@ -16,6 +17,7 @@ pub fn table_of(kind: Kind) -> Table
     ensures table { IsTable result }
     ensures accepts { Accepts kind result }
     ensures least { IsLeastTable kind result }
+    ensures few { result.states ≤ most_states kind }
 {
     with_template!(kind, table_by())
 }

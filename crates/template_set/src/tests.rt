@@ -65,6 +65,14 @@ fn tables_accept_the_words_that_keep(rt: HostRuntime) {
     }
 }
 
+/// An a, an a and then a b: two a's respond to one b, which does for Response alone.
+#[test]
+fn alternate_response_is_told_from_response(rt: HostRuntime) {
+    let number = 9;
+    assert!(rt; !accepts(&table_of(Kind::AlternateResponse), number, 3));
+    assert!(rt; accepts(&table_of(Kind::Response), number, 3));
+}
+
 #[test]
 fn names_and_arities(rt: HostRuntime) {
     let mut two: u32 = 0;

@@ -8,7 +8,8 @@ use Rattle.dfa_core.specs.Traces.{IsTrace}
 use Rattle.template_core.specs.Tables.{IsTable, class, keeps_by, table_run, step as table_step}
 use Rattle.template_core.specs.declared.constraint.Constraint.{Constraint}
 use Rattle.template_core.specs.declared.table.Table.{Table}
-use Rattle.dfa_product.specs.Pairs.{pairs, table_steps, IsIntersection, IsMeet}
+use Rattle.dfa_product.specs.Pairs.{IsIntersection, IsMeet}
+use Rattle.dfa_product.specs.SideBySide.{pairs, table_steps}
 use Rattle.dfa_product.specs.Wanted.{IsWanted}
 use Rattle.dfa_product.specs.declared.wanted.Want.TheVariants.{Beside}
 

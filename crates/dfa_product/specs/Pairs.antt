@@ -1,31 +1,10 @@
--- Two automata side by side, and what a constraint's table accepts.
-use Rattle.std.specs.Prelude.{◌≡◌, ℕ, ◌*◌, ◌+◌, ◌/◌, ◌%◌, ◌≤◌, List, Bool, ◌&&◌, not, if◌then◌else◌}
+-- What an automaton accepts together with a constraint's table or another automaton.
+use Rattle.std.specs.Prelude.{◌≡◌, ℕ, ◌*◌, ◌≤◌, List, ◌&&◌}
 use Rattle.dfa_core.specs.Traces.{IsTrace}
 use Rattle.dfa_core.specs.Automaton.{Automaton, accepts, state_count}
-use Rattle.dfa_core.specs.Steps.{Steps}
-use Rattle.template_core.specs.Tables.{accepts_at, class, keeps_by, step as table_step}
+use Rattle.template_core.specs.Tables.{keeps_by}
 use Rattle.template_core.specs.declared.constraint.Constraint.{Constraint}
 use Rattle.template_core.specs.declared.table.Table.{Table}
-
--- A pair of states is one number. A trace is accepted where both accept it.
-abbrev pub pairs : Steps → Steps → Steps
-pairs s t = record {
-  symbols = s.symbols;
-  states = s.states * t.states;
-  start = s.start * t.states + t.start;
-  next = λ q x. s.next (q / t.states) x * t.states + t.next (q % t.states) x;
-  accepting = λ q. s.accepting (q / t.states) && t.accepting (q % t.states);
-}
-
--- A constraint's table over the symbols below n: the traces that it accepts, which keep the constraint, or the others.
-abbrev pub table_steps : ℕ → Table → Constraint → Bool → Steps
-table_steps n t c keeps = record {
-  symbols = n;
-  states = t.states;
-  start = t.start;
-  next = λ q x. table_step t q (class c x);
-  accepting = λ q. if keeps then accepts_at t q else not (accepts_at t q);
-}
 
 -- the traces that the automaton and the table accept, with at most as many states as there are pairs
 pub record IsMeet (a : Automaton) (t : Table) (c : Constraint) (r : Automaton) : Type 0 where

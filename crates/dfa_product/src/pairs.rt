@@ -19,7 +19,7 @@ pub(crate) struct Pairs<'a, S: System> {
 
 impl<S: System> System for Pairs<'_, S> {
     ghost use Rattle.dfa_core.specs.Automaton.{steps_of};
-    ghost use Rattle.dfa_product.specs.Pairs.{pairs};
+    ghost use Rattle.dfa_product.specs.SideBySide.{pairs};
 
     ghost steps = { λ p. pairs (steps_of p.first.now) (S.steps p.second.now) };
 
@@ -56,7 +56,7 @@ pub(crate) struct TableSteps<'a> {
 }
 
 impl System for TableSteps<'_> {
-    ghost use Rattle.dfa_product.specs.Pairs.{table_steps};
+    ghost use Rattle.dfa_product.specs.SideBySide.{table_steps};
 
     ghost steps = { λ t. table_steps t.symbols t.table.now t.constraint.now t.keeps };
 

@@ -1,9 +1,10 @@
 -- The search goes over the constraints in another order: each once, and no other.
-use Rattle.std.proofs.Common.{◌≡◌, ℕ, zero, suc, ◌+◌, ◌<◌, List, [], ◌∷◌, ◌++◌, Bool, true, false, ◌&&◌, cond, map, filter, count_by, sum_by, length, refl, sym, ap, subst, ◌∙◌, add-one, arith}
+use Rattle.std.proofs.Common.{◌≡◌, ℕ, zero, suc, ◌+◌, ◌<◌, List, [], ◌∷◌, Bool, true, false, ◌&&◌, cond, map, filter, count_by, sum_by, length, refl, sym, ap, ◌∙◌, add-one, arith}
 use Rattle.std.specs.Bool.{⊤}
 use Rattle.std.specs.List.{AllByRecursion, range_with_len, flat_map}
 use Rattle.std.proofs.lemmas.List.Sums.{sum_by-cons, sum_by-append, sum_by_push}
 use Rattle.decl_base.specs.declared.threshold.Thresholds.{Thresholds}
+use Rattle.interplay_kb.proofs.Ranges.{range_more}
 use Rattle.template_core.proofs.Laws.{sum_by-same, sum_by-plus}
 use Rattle.template_core.specs.declared.constraint.Constraint.{Constraint}
 use Rattle.template_core.specs.declared.kind.Kind.{Kind}
@@ -15,22 +16,13 @@ use Rattle.scoring.specs.declared.scored.Scored.{Scored}
 use Rattle.scoring.proofs.Listing.{all-append, all-flat_map, all-any, each_below}
 use Rattle.scoring.proofs.Orders.{count-cons}
 
-pub range_more : (a n : ℕ) → range_with_len a (n + 1) ≡ range_with_len a n ++ (a + n) ∷ []
-range_more a zero = ap (λ x. x ∷ []) (omega arith)
-range_more a (suc n) = rw add-one (ap (λ xs. a ∷ xs) (ap (λ k. range_with_len (a + 1) k) (sym (add-one n)) ∙ range_more (a + 1) n ∙ ap (λ k. range_with_len (a + 1) n ++ k ∷ []) (omega arith)))
-
 -- sums over the numbers below n
 below : (ℕ → ℕ) → ℕ → ℕ
 below f n = sum_by f (range_with_len 0 n)
 
 below-more : (f : ℕ → ℕ) (n : ℕ) → below f (suc n) ≡ below f n + f n
 unfolding below
-below-more f n =
-    ap (λ k. sum_by f (range_with_len 0 k)) (sym (add-one n)) ∙ ap (sum_by f) (range_more 0 n) ∙ sum_by_push f (range_with_len 0 n) (0 + n) ∙ ap (λ k. sum_by f (range_with_len 0 n) + f k) (omega arith)
-
-below-same : (f g : ℕ → ℕ) → ((k : ℕ) → f k ≡ g k) → (n : ℕ) → below f n ≡ below g n
-unfolding below
-below-same f g same n = sum_by-same f g same (range_with_len 0 n)
+below-more f n = ap (λ k. sum_by f (range_with_len 0 k)) (sym (add-one n)) ∙ ap (sum_by f) (range_more n) ∙ sum_by_push f (range_with_len 0 n) n
 
 below-plus : (f g h : ℕ → ℕ) → ((k : ℕ) → f k + g k ≡ h k) → (n : ℕ) → below f n + below g n ≡ below h n
 unfolding below

@@ -1,6 +1,5 @@
 -- What a search counts: the numbers of its constraints, and which reach the thresholds.
-use Rattle.std.proofs.Common.{◌≡◌, ◌≢◌, ℕ, ◌*◌, ◌<◌, List, true, ◌&&◌, length, refl, sym, ap₂, ◌∙◌, arith}
-use Rattle.std.proofs.lemmas.Bool.Decides.{nat_tests}
+use Rattle.std.proofs.Common.{◌≡◌, ◌≢◌, ℕ, ◌*◌, ◌<◌, List, true, ◌&&◌, length, refl, sym, ap₂, arith}
 use Rattle.decl_base.specs.Threshold.{is_met}
 use Rattle.decl_base.specs.declared.threshold.Thresholds.{Thresholds}
 use Rattle.template_core.specs.Counts.{unary_counts, pair_counts, no_pair, counts_of}

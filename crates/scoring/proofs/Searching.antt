@@ -1,6 +1,6 @@
 -- What the search over a list of constraints finds.
-use Rattle.std.proofs.Common.{◌≡◌, ℕ, ◌+◌, ◌<◌, ◌≤◌, List, [], ◌∷◌, ◌++◌, Bool, true, false, cond, Some, None, map, count_by, take, get_or, if◌then◌else◌, length, nat_eq, refl, sym, ap, subst, ◌∙◌, append_assoc, arith}
-use Rattle.std.specs.List.{AllByRecursion, range_with_len, flat_map}
+use Rattle.std.proofs.Common.{◌≡◌, ℕ, ◌+◌, ◌<◌, ◌≤◌, List, [], ◌∷◌, ◌++◌, Bool, true, false, cond, Some, None, map, count_by, take, get_or, if◌then◌else◌, length, refl, sym, ap, subst, ◌∙◌, append_assoc}
+use Rattle.std.specs.List.{AllByRecursion, flat_map}
 use Rattle.std.proofs.lemmas.List.{append-nil, map-append, take_more, take_all}
 use Rattle.std.proofs.lemmas.List.Elements.{filter-append}
 use Rattle.std.proofs.lemmas.Grind.{flat_map-append}
@@ -8,7 +8,6 @@ use Rattle.decl_base.specs.declared.threshold.Thresholds.{Thresholds}
 use Rattle.interplay_kb.proofs.ByRank.{id_known, traces_with_told}
 use Rattle.interplay_kb.specs.Ranks.{TellsOf, kb_of, rank_count}
 use Rattle.interplay_kb.specs.declared.ranked.RankedKb.{RankedKb}
-use Rattle.template_core.specs.Counts.{traces_with}
 use Rattle.template_core.specs.declared.constraint.Constraint.{Constraint}
 use Rattle.template_core.specs.declared.kind.Kind.{Kind}
 use Rattle.template_core.specs.declared.kind.Kind.TheVariants.{Init}
@@ -16,12 +15,12 @@ use Rattle.template_set.specs.Names.{all_kinds}
 use Rattle.scoring.specs.Candidates.{takes, constraint_of, constraints_over, reaches_all, reaching, candidates_of, EachOccurs}
 use Rattle.scoring.specs.Conditions.{HasEachEvent}
 use Rattle.scoring.specs.Found.{Holds}
-use Rattle.scoring.specs.Priority.{priority_cmp, insert_in_order, in_order}
+use Rattle.scoring.specs.Priority.{priority_cmp, in_order}
 use Rattle.scoring.specs.Scores.{scored, IsScored}
 use Rattle.scoring.specs.Search.{taken, constraints_at, constraints_by_pair, reaching_of, Finds}
 use Rattle.scoring.specs.declared.found.Found.{Found}
 use Rattle.scoring.specs.declared.scored.Scored.{Scored}
-use Rattle.scoring.proofs.ByPair.{range_more, same_reaching, length-count, by_pair_all}
+use Rattle.scoring.proofs.ByPair.{same_reaching, length-count, by_pair_all}
 use Rattle.scoring.proofs.Orders.{in_order-count}
 use Rattle.scoring.proofs.Priorities.{in_order-same}
 use Rattle.scoring.proofs.Reaching.{reaching-is, reaching_of-scored, reaching_scored}
@@ -75,12 +74,7 @@ taken-passed first second kind e = rw e refl
 pub taken-is : (first second : ℕ) (kind : Kind) → takes kind first second ≡ true → taken first second kind ≡ constraint_of kind first second ∷ []
 taken-is first second kind e = rw e refl
 
--- one more piece
-pub below-more : {X : Type 0} (f : ℕ → List X) (k : ℕ) → flat_map f (range_with_len 0 (k + 1)) ≡ flat_map f (range_with_len 0 k) ++ f k
-below-more f k =
-    ap (flat_map f) (range_more 0 k) ∙ flat_map-append f (range_with_len 0 k) ((0 + k) ∷ [])
-    ∙ ap (λ xs. flat_map f (range_with_len 0 k) ++ xs) (append-nil (f (0 + k)) ∙ ap f (omega arith))
-
+-- one more template
 pub kinds-more : {X : Type 0} (f : Kind → List X) (k : ℕ) (kinds : List Kind) → kinds ≡ all_kinds → k < 18
     → flat_map f (take (k + 1) all_kinds) ≡ flat_map f (take k all_kinds) ++ f (get_or kinds k Init)
 kinds-more f k kinds e h =

@@ -1,13 +1,11 @@
-use Rattle.std.proofs.Common.{◌≡◌, ◌∙◌, List, ℕ, [], length, sym, ap, subst, arith}
+use Rattle.std.proofs.Common.{◌≡◌, ◌∙◌, [], length, sym, ap, subst, arith}
 use Rattle.std.specs.List.{AllByRecursion}
-use Rattle.interplay_kb.specs.Ranks.{TellsOf, kb_of, rank_count, ranked}
-use Rattle.interplay_kb.specs.Stands.{StandsFor, activity_count}
+use Rattle.interplay_kb.specs.Ranks.{TellsOf, rank_count, ranked}
+use Rattle.interplay_kb.specs.Stands.{activity_count}
 use Rattle.scoring.specs.Candidates.{EachOccurs, candidates_of}
 use Rattle.scoring.specs.Conditions.{HasEachEvent}
-use Rattle.scoring.specs.Found.{Holds}
 use Rattle.scoring.specs.Priority.{priority_cmp, in_order}
 use Rattle.scoring.specs.Scores.{IsScored}
-use Rattle.scoring.specs.Search.{constraints_by_pair, reaching_of}
 use Rattle.scoring.proofs.Searching.{each_told, found-length, found-in_order, found_scored}
 use Rattle.scoring.proofs.selection.candidates.Goals as goal
 

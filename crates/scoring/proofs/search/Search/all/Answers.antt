@@ -1,8 +1,9 @@
 use Rattle.std.proofs.Common.{◌≡◌, ◌∙◌, subst, refl, arith}
 use Rattle.std.specs.List.{flat_map, range_with_len}
 use Rattle.interplay_kb.specs.Ranks.{rank_count}
+use Rattle.interplay_kb.proofs.Ranges.{pieces_more}
 use Rattle.scoring.specs.Search.{constraints_with_smaller, constraints_by_pair, Finds}
-use Rattle.scoring.proofs.Searching.{finds-none, finds-more, below-more}
+use Rattle.scoring.proofs.Searching.{finds-none, finds-more}
 use Rattle.scoring.proofs.search.Search.all.Goals as goal
 
 pub loop-rank-init : goal.loop-rank-init
@@ -21,7 +22,7 @@ loop-rank-preserved c = record {
   limit = c.of_rank.ensures.limit ∙ c.loop-rank.invariant.limit;
   count = omega (arith, c.in_ok-of_rank.ensures.count);
   finds =
-      finds-more c.args.self.now.counters.now c.args.self.now.thresholds.now _ _ _ _ _ _ (below-more constraints_with_smaller c.loop-rank.rank)
+      finds-more c.args.self.now.counters.now c.args.self.now.thresholds.now _ _ _ _ _ _ (pieces_more constraints_with_smaller c.loop-rank.rank)
       c.loop-rank.invariant.finds c.in_ok-of_rank.ensures.finds;
 }
 

@@ -1,8 +1,9 @@
-use Rattle.std.proofs.Common.{◌≡◌, ◌++◌, ◌∙◌, sym, ap, subst, refl, append_assoc, arith}
+use Rattle.std.proofs.Common.{◌≡◌, ◌++◌, ◌∙◌, sym, ap, subst, append_assoc, arith}
 use Rattle.std.specs.List.{flat_map, range_with_len}
 use Rattle.std.proofs.lemmas.List.{append-nil}
+use Rattle.interplay_kb.proofs.Ranges.{pieces_more}
 use Rattle.scoring.specs.Search.{constraints_at, constraints_of_two, constraints_with_smaller, Finds}
-use Rattle.scoring.proofs.Searching.{finds-more, below-more}
+use Rattle.scoring.proofs.Searching.{finds-more}
 use Rattle.scoring.proofs.search.Search.of_rank.Goals as goal
 
 pub loop-smaller-init : goal.loop-smaller-init
@@ -22,7 +23,7 @@ loop-smaller-preserved c = record {
       let pair = λ (smaller : _). constraints_of_two smaller c.args.rank in
       let k = c.loop-smaller.smaller in
       finds-more c.args.self.now.counters.now c.args.self.now.thresholds.now _ _ _ _ _ _
-      (ap (λ xs. constraints_at c.args.rank c.args.rank ++ xs) (below-more pair k)
+      (ap (λ xs. constraints_at c.args.rank c.args.rank ++ xs) (pieces_more pair k)
       ∙ sym (append_assoc (constraints_at c.args.rank c.args.rank) (flat_map pair (range_with_len 0 k)) (pair k)))
       c.loop-smaller.invariant.finds c.in_ok-of_two.ensures.finds;
 }

@@ -1,4 +1,4 @@
-use Rattle.std.proofs.Common.{refl, arith}
+use Rattle.std.proofs.Common.{refl}
 use Rattle.std.proofs.lemmas.Result.{on_ok_weaker}
 use Rattle.scoring.specs.Search.{constraints_of_two}
 use Rattle.scoring.proofs.Searching.{finds-more}

@@ -8,13 +8,13 @@ use Rattle.decl_base.specs.declared.limits.Limits.{Limits}
 use Rattle.decl_base.specs.declared.refusal.Refusal.{Refusal}
 use Rattle.decl_base.specs.declared.refusal.Refusal.TheVariants as refusal
 use Rattle.event_log.specs.Logs.{place_of, has_name, with_name, first_seen}
+use Rattle.event_log.proofs.Appearing.{first_seen-push, place-with_name, with_name-keeps, with_name-least, with_name-new}
 use Rattle.log_columns.specs.declared.OrderAs.{OrderAs}
 use Rattle.csv_log.specs.declared.collect.Collected.{Collected}
 use Rattle.csv_log.specs.declared.kept.Kept.{Kept}
 use Rattle.csv_log.specs.declared.row.Fields.{Fields}
 use Rattle.csv_log.specs.CsvLog.{Event, limit_fault}
 use Rattle.csv_log.specs.Kept.{AddsEvent, CollectCause, Collects, IsInside, SaysEvent, Seen, read_back, seen_of}
-use Rattle.csv_log.proofs.Names.{place_in, name_at, longer, other_at, first_seen-push}
 
 slice_range-append : (texts more : List ℕ) (start end : ℕ) → start ≤ end → end ≤ length texts → slice_range (texts ++ more) start end ≡ slice_range texts start end
 slice_range-append texts more start end ordered within =
@@ -38,12 +38,12 @@ module _ (cases activities : List (List ℕ)) (texts case activity text : List �
   again = read_back (with_name cases case) (with_name activities activity) (texts ++ text)
 
   reads-new : again kept_of ≡ record { case = case; activity = activity; number = number; text = text }
-  reads-new = λ i. record { case = name_at cases case i; activity = name_at activities activity i; number = number; text = slice_range-back texts text i }
+  reads-new = λ i. record { case = (place-with_name cases case).1 i; activity = (place-with_name activities activity).1 i; number = number; text = slice_range-back texts text i }
 
   reads-old : (kept : Kept) → IsInside (length cases) (length activities) (length texts) kept → again kept ≡ read_back cases activities texts kept
   reads-old kept inside = λ i. record {
-    case = other_at cases case kept.case inside.case i;
-    activity = other_at activities activity kept.activity inside.activity i;
+    case = with_name-keeps cases case kept.case inside.case i;
+    activity = with_name-keeps activities activity kept.activity inside.activity i;
     number = kept.number;
     text = slice_range-append texts text kept.start kept.end inside.ordered inside.end i;
   }
@@ -63,16 +63,16 @@ module _ (cases activities : List (List ℕ)) (texts case activity text : List �
 
   still : (kept : Kept) → IsInside (length cases) (length activities) (length texts) kept → InsideAgain kept
   still kept inside = record {
-    case = omega (arith, inside.case, longer cases case);
-    activity = omega (arith, inside.activity, longer activities activity);
+    case = omega (arith, inside.case, with_name-least cases case);
+    activity = omega (arith, inside.activity, with_name-least activities activity);
     ordered = inside.ordered;
     end = omega (arith, inside.end, length-append texts text);
   }
 
   inside-new : InsideAgain kept_of
   inside-new = record {
-    case = place_in cases case;
-    activity = place_in activities activity;
+    case = (place-with_name cases case).0;
+    activity = (place-with_name activities activity).0;
     ordered = omega arith;
     end = omega (arith, length-append texts text);
   }
@@ -152,9 +152,6 @@ module _ (order_as : OrderAs) (limits : Limits) (events : List Event) (event : E
       let three = not_above limits.activities (length (first_seen (map (λ e. e.activity) more))) (omega (arith, ap length activities-more, adds.few_activities, h.activity_limit)) in
       rw (one, two, three) refl
 
-  one_more : (names : List (List ℕ)) (name : List ℕ) → has_name names name ≡ false → length (with_name names name) ≡ length names + 1
-  one_more names name new = rw new (length-append names (name ∷ []))
-
   pub limit_refused : (e : Refusal) → CollectCause fields limits old e → OfLimit e (limit_fault limits more ≡ Some e)
   limit_refused (refusal.Events n) cause =
       let one = above limits.events (length more) (omega (arith, cause.1, more-count)) in
@@ -162,13 +159,13 @@ module _ (order_as : OrderAs) (limits : Limits) (events : List Event) (event : E
   limit_refused (refusal.Traces n) cause =
       let one = not_above limits.events (length more) (omega (arith, cause.0, more-count)) in
       let two = above limits.traces (length (first_seen (map (λ e. e.case) more)))
-      (omega (arith, ap length cases-more, one_more old.cases.names fields.case.now cause.1.2, cause.1.1, h.case_limit)) in
+      (omega (arith, ap length cases-more, with_name-new old.cases.names fields.case.now cause.1.2, cause.1.1, h.case_limit)) in
       rw (one, two) (ap (λ m. Some (refusal.Traces m)) (sym (cause.1.0 ∙ h.case_limit)))
   limit_refused (refusal.Activities n) cause =
       let one = not_above limits.events (length more) (omega (arith, cause.0, more-count)) in
       let two = not_above limits.traces (length (first_seen (map (λ e. e.case) more))) (omega (arith, ap length cases-more, cause.1, h.case_limit)) in
       let three = above limits.activities (length (first_seen (map (λ e. e.activity) more)))
-      (omega (arith, ap length activities-more, one_more old.activities.names fields.activity.now cause.2.2, cause.2.1, h.activity_limit)) in
+      (omega (arith, ap length activities-more, with_name-new old.activities.names fields.activity.now cause.2.2, cause.2.1, h.activity_limit)) in
       rw (one, two, three) (ap (λ m. Some (refusal.Activities m)) (sym (cause.2.0 ∙ h.activity_limit)))
   limit_refused refusal.Memory cause = tt
   limit_refused e cause = absurd cause

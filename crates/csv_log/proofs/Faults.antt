@@ -9,7 +9,7 @@ use Rattle.decl_base.specs.declared.refusal.Refusal.{Refusal}
 use Rattle.decl_base.specs.declared.refusal.Refusal.TheVariants as refusal
 use Rattle.event_log.specs.Logs.{has_name}
 use Rattle.log_columns.specs.declared.Columns.{Columns}
-use Rattle.csv_log.specs.CsvLog.{csv_log, csv_log_of, decided, event_of, fault_at, first_fault, first_some, header_of, limit_fault, log_of, records_of, row_fault, rows_of, wanted}
+use Rattle.csv_log.specs.CsvLog.{csv_log, csv_log_of, decided, event_of, fault_at, first_fault, first_some, header_of, limit_fault, log_of_events, records_of, row_fault, rows_of, wanted}
 
 module _ (f : ℕ → Option Refusal) where
   first-none : (a n : ℕ) → ((k : ℕ) → a ≤ k → k < a + n → f k ≡ None) → first_some (map f (range_with_len a n)) ≡ None
@@ -79,10 +79,10 @@ module _ (columns : Columns) (limits : Limits) (header : List (List ℕ)) where
     parts = ap (λ l. csv_log_of columns limits (header_of l) (rows_of l)) all
 
     pub no_column : (i : ℕ) → position lacks (wanted columns) ≡ Some i → csv_log columns limits bytes ≡ Err (refusal.Header (i + 1))
-    no_column i h = parts ∙ ap (λ o. decided o (first_fault columns limits header rows) (log_of columns (map (event_of columns header) rows))) h
+    no_column i h = parts ∙ ap (λ o. decided o (first_fault columns limits header rows) (log_of_events columns (map (event_of columns header) rows))) h
 
     pub at_fault : (e : Refusal) → position lacks (wanted columns) ≡ None → first_fault columns limits header rows ≡ Some e → csv_log columns limits bytes ≡ Err e
-    at_fault e present fault = parts ∙ ap₂ (λ o f. decided o f (log_of columns (map (event_of columns header) rows))) present fault
+    at_fault e present fault = parts ∙ ap₂ (λ o f. decided o f (log_of_events columns (map (event_of columns header) rows))) present fault
 
-    pub whole : position lacks (wanted columns) ≡ None → first_fault columns limits header rows ≡ None → csv_log columns limits bytes ≡ Ok (log_of columns (map (event_of columns header) rows))
-    whole present none = parts ∙ ap₂ (λ o f. decided o f (log_of columns (map (event_of columns header) rows))) present none
+    pub whole : position lacks (wanted columns) ≡ None → first_fault columns limits header rows ≡ None → csv_log columns limits bytes ≡ Ok (log_of_events columns (map (event_of columns header) rows))
+    whole present none = parts ∙ ap₂ (λ o f. decided o f (log_of_events columns (map (event_of columns header) rows))) present none

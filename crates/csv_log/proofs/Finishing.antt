@@ -9,20 +9,21 @@ use Rattle.std.specs.List.{list_any, range_with_len, AllByRecursion}
 use Rattle.std.specs.List.Sorted.{IsPermutation}
 use Rattle.std.specs.Option.{is_some}
 use Rattle.std.specs.Ordering.{is_lt, ordering_then}
+use Rattle.std.specs.Cmp.Lexicographic.{bytes_decides}
 use Rattle.std.specs.Str.{bytes_eq}
 use Rattle.decl_base.specs.declared.limits.Limits.{Limits}
 use Rattle.event_log.specs.Log.{Traces}
 use Rattle.event_log.specs.Logs.{events_of, has_name, named}
 use Rattle.event_log.proofs.Alphabets.{first_seen-has}
+use Rattle.event_log.proofs.Appearing.{StandOnce, first_seen-once, one_place}
 use Rattle.log_columns.specs.declared.Columns.{Columns}
 use Rattle.log_columns.specs.declared.OrderAs.{OrderAs}
 use Rattle.log_columns.specs.declared.OrderAs.TheVariants as by
 use Rattle.csv_log.specs.declared.collect.Collected.{Collected}
 use Rattle.csv_log.specs.declared.kept.Kept.{Kept}
-use Rattle.csv_log.specs.CsvLog.{Event, in_order, is_before, log_of, trace_of}
+use Rattle.csv_log.specs.CsvLog.{Event, in_order, is_before, log_of_events, trace_of}
 use Rattle.csv_log.specs.Kept.{Collects, IsInside, IsLogOf, Seen, is_less, is_of_case, read_back, seen_less, seen_of}
 use Rattle.csv_log.specs.Sorting.{insert_sorted, stably_sorted}
-use Rattle.csv_log.proofs.Names.{StandOnce, equal, first_seen-once, one_place, same_name}
 use Rattle.csv_log.proofs.Sorts.{map-stably_sorted}
 
 -- ---- the order of what is kept is that of the events
@@ -118,11 +119,11 @@ module _ (cases activities : List (List ℕ)) (texts : List ℕ) (once : StandOn
       is_not a b h = λ e. grind (arith, nat_tests)
 
       go : (b : Bool) → (kept.case == i) ≡ b → b ≡ bytes_eq (get_or cases i []) (get_or cases kept.case [])
-      go true e = sym (ap (λ (n : ℕ). bytes_eq (get_or cases i []) (get_or cases n [])) (is kept.case i e) ∙ same_name (get_or cases i []))
+      go true e = sym (ap (λ (n : ℕ). bytes_eq (get_or cases i []) (get_or cases n [])) (is kept.case i e) ∙ (bytes_decides (get_or cases i []) (get_or cases i [])).1 refl)
       go false e = other (bytes_eq (get_or cases i []) (get_or cases kept.case [])) refl
         where
           other : (b : Bool) → bytes_eq (get_or cases i []) (get_or cases kept.case []) ≡ b → false ≡ b
-          other true same = absurd (is_not kept.case i e (sym (one_place cases i kept.case once in_i in_kept (equal _ _ same))))
+          other true same = absurd (is_not kept.case i e (sym (one_place cases i kept.case once in_i in_kept ((bytes_decides _ _).0 same))))
           other false same = refl
 
   trace_of-kept : (i : ℕ) (all : List Kept) → i < length cases → AllByRecursion (λ kept. kept.case < length cases) all
@@ -172,7 +173,7 @@ module _ (columns : Columns) (limits : Limits) (events : List Event) (all : Coll
   abbrev traces_of : Bool → List (List ℕ)
   traces_of ordered = map (λ case. map (λ kept. kept.activity) (filter (is_of_case case) (sorted ordered))) (range_with_len 0 (length all.cases.names))
 
-  named-is : named names (traces_of (is_some columns.order)) ≡ log_of columns events
+  named-is : named names (traces_of (is_some columns.order)) ≡ log_of_events columns events
   named-is =
       map-map (λ case. map (λ kept. kept.activity) (filter (is_of_case case) (sorted (is_some columns.order)))) (map (λ id. get_or names id [])) (range_with_len 0 (length all.cases.names))
       ∙ map-range _ (λ i. trace_of (in_order columns.order columns.order_as events) (get_or all.cases.names i [])) 0 (length all.cases.names)

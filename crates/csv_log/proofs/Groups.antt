@@ -10,6 +10,7 @@ use Rattle.std.specs.Ordering.{is_lt}
 use Rattle.decl_base.specs.declared.limits.Limits.{Limits}
 use Rattle.event_log.specs.Log.{Traces, with_event, with_last}
 use Rattle.event_log.specs.Logs.{events_of}
+use Rattle.event_log.proofs.Appearing.{events_of-push}
 use Rattle.csv_log.specs.declared.kept.Kept.{Kept}
 use Rattle.csv_log.specs.Kept.{is_earlier_case, is_of_case}
 use Rattle.csv_log.proofs.Sorts.{AreAtLeast, Rises}
@@ -30,9 +31,6 @@ trace_more now log events i d id is inside same =
     ∙ ap (λ (l : List (List ℕ)). record log { traces = l }) (with_last-push log.traces (activities (take i events)) id
     ∙ ap (λ (l : List ℕ). log.traces ++ l ∷ []) (ap (λ n. activities (take i events) ++ n ∷ []) same
     ∙ sym (map-append (λ (kept : Kept). kept.activity) (take i events) (get_or events i d ∷ [])) ∙ ap activities (sym (take_more events i d inside))))
-
-events_of-push : (traces : List (List ℕ)) (trace : List ℕ) → events_of (traces ++ trace ∷ []) ≡ events_of traces ++ trace
-events_of-push traces trace = flat_map-append (λ (t : List ℕ). t) traces (trace ∷ []) ∙ ap (λ l. events_of traces ++ l) (append-nil trace)
 
 range-push : (a n : ℕ) → range_with_len a (n + 1) ≡ range_with_len a n ++ (a + n) ∷ []
 range-push a zero = ap (λ (m : ℕ). m ∷ []) (omega arith)

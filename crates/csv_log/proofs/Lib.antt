@@ -7,7 +7,6 @@ pub mod Finishing
 pub mod Firsts
 pub mod Groups
 pub mod Marks
-pub mod Names
 pub mod Orders
 pub mod Reading
 pub mod Rows

@@ -13,7 +13,7 @@ use Rattle.log_columns.specs.declared.Columns.{Columns}
 use Rattle.csv_log.specs.declared.collect.Collected.{Collected}
 use Rattle.csv_log.specs.declared.places.Places.{Places}
 use Rattle.csv_log.specs.declared.row.Fields.{Fields}
-use Rattle.csv_log.specs.CsvLog.{CsvCause, activities_of, csv_log, csv_log_of, event_of, field_of, header_of, limit_fault, log_of, records_of, row_fault, rows_of, wanted}
+use Rattle.csv_log.specs.CsvLog.{CsvCause, activities_of, csv_log, csv_log_of, event_of, field_of, header_of, limit_fault, log_of_events, records_of, row_fault, rows_of, wanted}
 use Rattle.csv_log.specs.Kept.{AddsEvent, ArePlaces, CollectCause, Collects, SaysEvent}
 use Rattle.csv_log.specs.Walk.{IsReading}
 use Rattle.csv_log.proofs.Collecting.{OfLimit, collected_count, collects-more, limit_refused, no_limit}
@@ -117,7 +117,7 @@ module _ (columns : Columns) (limits : Limits) (bytes : List ℕ) where
 
     -- after the last record
     module _ (reader : Reader (Bor (List ℕ))) (collected : Collected) (h : HasRead reader collected) (end : records_of bytes ≡ h.header ∷ h.rows) where
-      pub is_whole : csv_log columns limits bytes ≡ Ok (log_of columns (map (event_of columns h.header) h.rows))
+      pub is_whole : csv_log columns limits bytes ≡ Ok (log_of_events columns (map (event_of columns h.header) h.rows))
       is_whole = whole columns limits h.header bytes h.rows end h.present (no_fault columns limits h.header h.rows h.faultless)
 
       pub names_are : first_seen (map (λ event. event.activity) (map (event_of columns h.header) h.rows)) ≡ activities_of columns bytes

@@ -36,6 +36,10 @@ rows_of (header ∷ rows) = rows
 abbrev pub wanted : Columns → List (List ℕ)
 wanted columns = columns.case ∷ columns.activity ∷ option_to_list columns.order
 
+-- the place among the wanted columns of the first that a header doesn't have
+abbrev pub first_missing : List (List ℕ) → List (List ℕ) → Option ℕ
+first_missing header wanted = position (λ name. not (has_name header name)) wanted
+
 -- the field of a row in the first column with this name
 abbrev pub field_of : List (List ℕ) → List (List ℕ) → List ℕ → List ℕ
 field_of header row name = slice_index_or row (place_of header name) []
@@ -108,8 +112,8 @@ abbrev pub trace_of : List Event → List ℕ → List (List ℕ)
 trace_of events case = map (λ event. event.activity) (filter (λ event. bytes_eq case event.case) events)
 
 -- a trace for each case, the cases in the order of their first records
-abbrev pub log_of : Columns → List Event → List (List (List ℕ))
-log_of columns events = map (trace_of (in_order columns.order columns.order_as events)) (first_seen (map (λ event. event.case) events))
+abbrev pub log_of_events : Columns → List Event → List (List (List ℕ))
+log_of_events columns events = map (trace_of (in_order columns.order columns.order_as events)) (first_seen (map (λ event. event.case) events))
 
 -- the log, or the number of the first wanted column that is not there, or the fault of the first row at fault
 abbrev pub decided : Option ℕ → Option Refusal → List (List (List ℕ)) → Result (List (List (List ℕ))) Refusal
@@ -119,8 +123,8 @@ decided None None log = Ok log
 
 abbrev pub csv_log_of : Columns → Limits → List (List ℕ) → List (List (List ℕ)) → Result (List (List (List ℕ))) Refusal
 csv_log_of columns limits header rows =
-    decided (position (λ name. not (has_name header name)) (wanted columns)) (first_fault columns limits header rows)
-    (log_of columns (map (event_of columns header) rows))
+    decided (first_missing header (wanted columns)) (first_fault columns limits header rows)
+    (log_of_events columns (map (event_of columns header) rows))
 
 -- the log of a CSV text, as names, or why it has none
 abbrev pub csv_log : Columns → Limits → List ℕ → Result (List (List (List ℕ))) Refusal

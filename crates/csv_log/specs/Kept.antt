@@ -1,14 +1,17 @@
 -- What is kept of an event, and what it stands for.
-use Rattle.std.specs.Prelude.{◌≡◌, ℕ, ◌+◌, ◌≤◌, ◌<◌, ◌==◌, List, [], ◌∷◌, ◌++◌, Bool, false, Option, Some, All, length, map, nat_le, option_map, option_to_list, unwrap_or, slice_index_or, slice_range, ℤ, pos}
+use Rattle.std.specs.Prelude.{◌≡◌, ℕ, ◌+◌, ◌≤◌, ◌<◌, ◌==◌, if◌then◌else◌, List, [], ◌∷◌, ◌++◌, Bool, false, Option, None, Some, All, filter, length, map, nat_le, option_map, option_to_list, unwrap_or, slice_index_or, slice_range, ℤ, pos}
+use denote.Ref.{Bor}
 use Rattle.std.specs.Cmp.Lexicographic.{slice_cmp}
-use Rattle.std.specs.List.{list_any}
+use Rattle.std.specs.declared.cmp.Ordering.{Ordering}
+use Rattle.std.specs.List.{list_any, range_with_len}
+use Rattle.std.specs.List.Sorted.{IsPermutation}
 use Rattle.std.specs.Ordering.{nat_cmp, int_cmp, is_lt, ordering_then}
 use Rattle.decl_base.specs.declared.limits.Limits.{Limits}
 use Rattle.decl_base.specs.declared.refusal.Refusal.{Refusal}
 use Rattle.decl_base.specs.declared.refusal.Refusal.TheVariants as refusal
 use Rattle.event_log.specs.Alphabet.{Names, AddCause}
 use Rattle.event_log.specs.Log.{Traces}
-use Rattle.event_log.specs.Logs.{place_of, has_name, named, with_name, first_seen, IsNumbering}
+use Rattle.event_log.specs.Logs.{events_of, place_of, has_name, named, with_name, first_seen, IsNumbering}
 use Rattle.log_columns.specs.declared.Columns.{Columns}
 use Rattle.log_columns.specs.declared.OrderAs.{OrderAs}
 use Rattle.log_columns.specs.declared.OrderAs.TheVariants as by
@@ -17,8 +20,9 @@ use Rattle.csv_log.specs.declared.kept.Kept.{Kept}
 use Rattle.csv_log.specs.declared.places.Places.{Places}
 use Rattle.csv_log.specs.declared.row.Fields.{Fields}
 use Rattle.event_log.specs.Within.{IsWithin}
-use Rattle.csv_log.specs.CsvLog.{Event, log_of}
+use Rattle.csv_log.specs.CsvLog.{Event, event_of, log_of_events, row_fault}
 use Rattle.csv_log.specs.Number.{number_of}
+use Rattle.csv_log.specs.Sorting.{stably_sorted}
 
 -- the places of the wanted columns in a header
 pub record ArePlaces (header : List (List ℕ)) (columns : Columns) (places : Places) : Type 0 where
@@ -29,6 +33,14 @@ pub record ArePlaces (header : List (List ℕ)) (columns : Columns) (places : Pl
 -- whether a row has no field at one of the places
 abbrev pub lacks_field : Places → List (List ℕ) → Bool
 lacks_field places row = list_any (nat_le (length row)) (places.case ∷ places.activity ∷ option_to_list places.order)
+
+-- the field of a row at a place
+abbrev pub field_in : List (List ℕ) → ℕ → List ℕ
+field_in row place = slice_index_or row place []
+
+-- a value that was found, as its bytes
+abbrev pub value_of : Option (Bor (List ℕ)) → Option (List ℕ)
+value_of value = option_map (λ v. v.now) value
 
 -- by what a value is ordered among numbers
 abbrev pub number_key : OrderAs → Option (List ℕ) → ℤ
@@ -53,6 +65,16 @@ seen_of order_as event = record { case = event.case; activity = event.activity; 
 -- the fields say this event
 abbrev pub SaysEvent : OrderAs → Event → Fields → Type 0
 SaysEvent order_as event fields = seen_of order_as event ≡ record { case = fields.case.now; activity = fields.activity.now; number = fields.number; text = fields.text.now }
+
+-- of whatever columns have these places, a row says this event and has no fault
+abbrev pub SaysRow : Places → OrderAs → List (List ℕ) → ℕ → Fields → Type 0
+SaysRow places order_as row number fields = (header : List (List ℕ)) (columns : Columns) → ArePlaces header columns places → columns.order_as ≡ order_as
+    → SaysEvent columns.order_as (event_of columns header row) fields × (row_fault columns header row number ≡ None)
+
+-- of whatever columns have these places, this is its fault
+abbrev pub HasRowFault : Places → OrderAs → List (List ℕ) → ℕ → Refusal → Type 0
+HasRowFault places order_as row number fault = (header : List (List ℕ)) (columns : Columns) → ArePlaces header columns places → columns.order_as ≡ order_as
+    → row_fault columns header row number ≡ Some fault
 
 -- what is kept of an event, with the cases, the activities and the texts that were kept
 abbrev pub read_back : List (List ℕ) → List (List ℕ) → List ℕ → Kept → Seen
@@ -82,9 +104,17 @@ pub record Collects (order_as : OrderAs) (limits : Limits) (events : List Event)
   pub few_cases : length all.cases.names ≤ limits.traces
   pub few_activities : length all.activities.names ≤ limits.activities
 
+-- how what is kept of two events compares by what orders them
+abbrev pub kept_cmp : List ℕ → Kept → Kept → Ordering
+kept_cmp texts a b = ordering_then (slice_cmp nat_cmp (slice_range texts a.start a.end) (slice_range texts b.start b.end)) (int_cmp a.number b.number)
+
 -- whether what is kept of an event comes before another whatever the order of their records
 abbrev pub is_less : List ℕ → Kept → Kept → Bool
-is_less texts a b = is_lt (ordering_then (slice_cmp nat_cmp (slice_range texts a.start a.end) (slice_range texts b.start b.end)) (int_cmp a.number b.number))
+is_less texts a b = is_lt (kept_cmp texts a b)
+
+-- in ascending order where they are ordered, and else as they came
+abbrev pub sorted_where : Bool → List ℕ → List Kept → List Kept
+sorted_where ordered texts events = if ordered then stably_sorted (is_less texts) events else events
 
 -- the same of what it stands for
 abbrev pub seen_less : Seen → Seen → Bool
@@ -130,9 +160,21 @@ is_earlier_case a b = is_lt (nat_cmp a.case b.case)
 abbrev pub is_of_case : ℕ → Kept → Bool
 is_of_case case kept = kept.case == case
 
+-- the activities of the events of each case, of which there are so many
+abbrev pub traces_by_case : ℕ → List Kept → List (List ℕ)
+traces_by_case cases events = map (λ case. map (λ kept. kept.activity) (filter (is_of_case case) events)) (range_with_len 0 cases)
+
+-- these traces have the events in some order
+abbrev pub HaveTheEvents : List (List ℕ) → List Kept → Type 0
+HaveTheEvents traces events = (all : List Kept) × IsPermutation events all × (events_of traces ≡ map (λ kept. kept.activity) all)
+
 -- the alphabet and the log of these events
 pub record IsLogOf (columns : Columns) (limits : Limits) (events : List Event) (alphabet : Names) (log : Traces) : Type 0 where
-  pub traces : named alphabet.names log.traces ≡ log_of columns events
+  pub traces : named alphabet.names log.traces ≡ log_of_events columns events
   pub names : alphabet.names ≡ first_seen (map (λ event. event.activity) events)
   pub numbering : IsNumbering alphabet.names log.traces
   pub within : IsWithin limits alphabet log
+
+-- whatever events were collected, these are their alphabet and log
+abbrev pub IsLogOfCollected : Columns → Limits → Collected → Names → Traces → Type 0
+IsLogOfCollected columns limits collected alphabet log = (events : List Event) → Collects columns.order_as limits events collected → IsLogOf columns limits events alphabet log

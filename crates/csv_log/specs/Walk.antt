@@ -21,3 +21,7 @@ pub record IsReading (text : List ℕ) (rows : List (List (List ℕ))) (reader :
 abbrev pub GoesOn : List ℕ → List (List (List ℕ)) → Bool → List (List ℕ) → Reader (Bor (List ℕ)) → Type 0
 GoesOn text rows true fields reader = IsReading text (rows ++ fields ∷ []) reader
 GoesOn text rows false fields reader = records default_config (strip_bom text) ≡ rows
+
+-- a read showed whether there is one record more, and went behind it
+abbrev pub ReadsRecord : Reader (Bor (List ℕ)) → Reader (Bor (List ℕ)) → Bool → List (List ℕ) → Type 0
+ReadsRecord old new found fields = (text : List ℕ) (rows : List (List (List ℕ))) → IsReading text rows old → GoesOn text rows found fields new

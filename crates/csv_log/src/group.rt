@@ -5,7 +5,7 @@ ghost use Rattle.std.specs.List.Sorted.{IsPermutation, IsSortedBy};
 ghost use Rattle.std.specs.Ordering.{nat_cmp, int_cmp, ordering_then};
 ghost use Rattle.event_log.specs.Logs.{events_of};
 ghost use Rattle.csv_log.specs.declared.kept.Kept.{Kept};
-ghost use Rattle.csv_log.specs.Kept.{is_less, is_earlier_case, is_of_case};
+ghost use Rattle.csv_log.specs.Kept.{HaveTheEvents, is_earlier_case, is_less, is_of_case, kept_cmp, sorted_where, traces_by_case};
 ghost use Rattle.csv_log.specs.Sorting.{stably_sorted};
 
 use crate::kept::Kept;
@@ -16,7 +16,7 @@ use std::cmp::Ordering;
 
 /// The log of the events, a trace for each case, of which there are so many. Where they are `ordered`, the events of a
 /// case ascend by what orders them, and else they stand as they came.
-pub(crate) fn log_of(
+pub(crate) fn grouped_log(
     alloc: Global,
     events: &mut Vec<Kept>,
     texts: &[u8],
@@ -27,8 +27,8 @@ pub(crate) fn log_of(
     requires few_cases { cases ≤ limits.now.traces }
     requires few_events { vec_len events.old ≤ limits.now.events }
     requires inside { All (λ kept. kept.case < cases) events.old.items }
-    ensures traces { IfOk result (λ log. log.traces ≡ map (λ case. map (λ kept. kept.activity) (filter (is_of_case case) (if ordered then stably_sorted (is_less texts.now) events.old.items else events.old.items))) (range_with_len 0 cases)) }
-    ensures events { IfOk result (λ log. (all : List Kept) × IsPermutation events.old.items all × (events_of log.traces ≡ map (λ kept. kept.activity) all)) }
+    ensures traces { IfOk result (λ log. log.traces ≡ traces_by_case cases (sorted_where ordered texts.now events.old.items)) }
+    ensures events { IfOk result (λ log. HaveTheEvents log.traces events.old.items) }
     ensures within { IfOk result (λ log. (log.trace_limit ≡ limits.now.traces) × (log.event_limit ≡ limits.now.events)) }
     ensures err { IfErr result (λ e. e ≡ Refusal.Memory) }
 {
@@ -39,7 +39,7 @@ pub(crate) fn log_of(
 
 /// Puts the events in ascending order of what orders them, where they are `ordered`.
 fn sort_where_ordered(events: &mut Vec<Kept>, texts: &[u8], ordered: bool) -> Result<(), Refusal>
-    ensures sorted { OnOk result (events.new.items ≡ (if ordered then stably_sorted (is_less texts.now) events.old.items else events.old.items)) }
+    ensures sorted { OnOk result (events.new.items ≡ sorted_where ordered texts.now events.old.items) }
     ensures same { OnOk result (IsPermutation events.old.items events.new.items) }
     ensures err { IfErr result (λ e. e ≡ Refusal.Memory) }
 {
@@ -61,7 +61,7 @@ fn sort_by_value(events: &mut Vec<Kept>, texts: &[u8]) -> Result<(), Refusal>
 
 /// Which of two events stands first by what orders them.
 fn compare(texts: &[u8], a: &Kept, b: &Kept) -> Ordering
-    ensures { result ≡ ordering_then (slice_cmp nat_cmp (slice_range texts.now a.now.start a.now.end) (slice_range texts.now b.now.start b.now.end)) (int_cmp a.now.number b.now.number) }
+    ensures { result ≡ kept_cmp texts.now a.now b.now }
 {
     text_of(texts, a)
         .cmp(text_of(texts, b))
@@ -97,7 +97,7 @@ fn traces_of(alloc: Global, events: &[Kept], cases: u32, limits: &Limits) -> Res
     requires few_events { length events.now ≤ limits.now.events }
     requires sorted { IsSortedBy is_earlier_case events.now }
     requires inside { All (λ kept. kept.case < cases) events.now }
-    ensures traces { IfOk result (λ log. log.traces ≡ map (λ case. map (λ kept. kept.activity) (filter (is_of_case case) events.now)) (range_with_len 0 cases)) }
+    ensures traces { IfOk result (λ log. log.traces ≡ traces_by_case cases events.now) }
     ensures events { IfOk result (λ log. events_of log.traces ≡ map (λ kept. kept.activity) events.now) }
     ensures within { IfOk result (λ log. (log.trace_limit ≡ limits.now.traces) × (log.event_limit ≡ limits.now.events)) }
     ensures err { IfErr result (λ e. e ≡ Refusal.Memory) }

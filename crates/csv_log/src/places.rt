@@ -1,7 +1,7 @@
 ghost use Rattle.std.specs.Prelude.{◌≡◌, ◌+◌, ℕ, IfOk, IfErr, not, position, true, false, Some, None, option_map, option_to_list};
 ghost use Rattle.csv.specs.Records.{fields_of};
 ghost use Rattle.event_log.specs.Logs.{has_name, place_of};
-ghost use Rattle.csv_log.specs.CsvLog.{wanted};
+ghost use Rattle.csv_log.specs.CsvLog.{first_missing, wanted};
 ghost use Rattle.csv_log.specs.Kept.{ArePlaces};
 
 use crate::Columns;
@@ -20,8 +20,8 @@ pub(crate) struct Places {
 /// The places of the wanted columns, by their header.
 pub(crate) fn find_places(header: &ByteRecord, columns: &Columns) -> Result<Places, Refusal>
     ensures ok { IfOk result (ArePlaces (fields_of header.now) columns.now) }
-    ensures present { IfOk result (λ _. position (λ name. not (has_name (fields_of header.now) name)) (wanted columns.now) ≡ None) }
-    ensures err { IfErr result (λ e. (i : ℕ) × (position (λ name. not (has_name (fields_of header.now) name)) (wanted columns.now) ≡ Some i) × (e ≡ Refusal.Header (i + 1))) }
+    ensures present { IfOk result (λ _. first_missing (fields_of header.now) (wanted columns.now) ≡ None) }
+    ensures err { IfErr result (λ e. (i : ℕ) × (first_missing (fields_of header.now) (wanted columns.now) ≡ Some i) × (e ≡ Refusal.Header (i + 1))) }
 {
     let case = find_place(header, &columns.case, 1)?;
     let activity = find_place(header, &columns.activity, 2)?;
@@ -36,8 +36,8 @@ pub(crate) fn find_places(header: &ByteRecord, columns: &Columns) -> Result<Plac
 /// The place of the order column, where one is wanted.
 fn find_order(header: &ByteRecord, order: &Option<Name>) -> Result<Option<usize>, Refusal>
     ensures place { IfOk result (λ place. place ≡ option_map (place_of (fields_of header.now)) order.now) }
-    ensures present { IfOk result (λ _. position (λ name. not (has_name (fields_of header.now) name)) (option_to_list order.now) ≡ None) }
-    ensures err { IfErr result (λ e. (position (λ name. not (has_name (fields_of header.now) name)) (option_to_list order.now) ≡ Some 0) × (e ≡ Refusal.Header 3)) }
+    ensures present { IfOk result (λ _. first_missing (fields_of header.now) (option_to_list order.now) ≡ None) }
+    ensures err { IfErr result (λ e. (first_missing (fields_of header.now) (option_to_list order.now) ≡ Some 0) × (e ≡ Refusal.Header 3)) }
 {
     let Some(name) = order else {
         return Ok(None);

@@ -2,11 +2,11 @@ ghost use Rattle.std.specs.Prelude.{◌≡◌, List, IfOk, IfErr, Ok};
 ghost use Rattle.event_log.specs.Logs.{named, IsNumbering};
 ghost use Rattle.event_log.specs.Within.{CanCount, IsWithin};
 ghost use Rattle.csv_log.specs.CsvLog.{activities_of, csv_log, CsvCause, Event};
-ghost use Rattle.csv_log.specs.Kept.{Collects, IsLogOf};
+ghost use Rattle.csv_log.specs.Kept.{Collects, IsLogOfCollected};
 
 use crate::Columns;
 use crate::collect::Collected;
-use crate::group::log_of;
+use crate::group::grouped_log;
 use crate::places::find_places;
 use crate::records::{next_record, records_of, without_mark};
 use crate::row::read_row;
@@ -55,7 +55,7 @@ fn finish(
     limits: &Limits,
 ) -> Result<(Alphabet, Log), Refusal>
     requires { (events : List Event) × Collects columns.now.order_as limits.now events collected }
-    ensures ok { IfOk result (λ read. (events : List Event) → Collects columns.now.order_as limits.now events collected → IsLogOf columns.now limits.now events read.0 read.1) }
+    ensures ok { IfOk result (λ read. IsLogOfCollected columns.now limits.now collected read.0 read.1) }
     ensures err { IfErr result (λ e. e ≡ Refusal.Memory) }
 {
     let Collected {
@@ -64,7 +64,7 @@ fn finish(
         mut events,
         texts,
     } = collected;
-    let log = log_of(
+    let log = grouped_log(
         alloc,
         &mut events,
         &texts,

@@ -1,7 +1,7 @@
-ghost use Rattle.std.specs.Prelude.{◌≡◌, List, [], ℕ, IfOk, IfErr};
+ghost use Rattle.std.specs.Prelude.{◌≡◌, [], IfOk, IfErr};
 ghost use Rattle.csv.specs.Reading.{strip_bom};
 ghost use Rattle.csv.specs.Records.{fields_of};
-ghost use Rattle.csv_log.specs.Walk.{IsReading, GoesOn};
+ghost use Rattle.csv_log.specs.Walk.{IsReading, ReadsRecord};
 
 use csv::{ByteRecord, Reader, ReaderBuilder};
 use decl_base::Refusal;
@@ -32,7 +32,7 @@ pub(crate) fn records_of(alloc: Global, text: &[u8]) -> Reader<&[u8]>
 
 /// Puts the next record into `row`, and answers whether there is one. Over bytes in memory only memory can be wanting.
 pub(crate) fn next_record(reader: &mut Reader<&[u8]>, row: &mut ByteRecord) -> Result<bool, Refusal>
-    ensures ok { IfOk result (λ found. (text : List ℕ) (rows : List (List (List ℕ))) → IsReading text rows reader.old → GoesOn text rows found (fields_of row.new) reader.new) }
+    ensures ok { IfOk result (λ found. ReadsRecord reader.old reader.new found (fields_of row.new)) }
     ensures err { IfErr result (λ e. e ≡ Refusal.Memory) }
 {
     let Ok(found) = reader.read_byte_record(row) else {

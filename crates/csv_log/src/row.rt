@@ -1,8 +1,8 @@
 ghost use Rattle.std.specs.Prelude.{◌≡◌, ◌&&◌, nat_le, length, slice_index_or, [], IfOk, IfErr, IfSome, IfNone, List, ℕ, Some, None, true, false, option_map, unwrap_or};
 ghost use Rattle.std.specs.Str.{is_utf8};
 ghost use Rattle.csv.specs.Records.{fields_of};
-ghost use Rattle.csv_log.specs.CsvLog.{event_of, has_no_number, row_fault};
-ghost use Rattle.csv_log.specs.Kept.{ArePlaces, SaysEvent, lacks_field, number_key, text_key};
+ghost use Rattle.csv_log.specs.CsvLog.{has_no_number};
+ghost use Rattle.csv_log.specs.Kept.{HasRowFault, SaysRow, field_in, lacks_field, number_key, text_key, value_of};
 
 use crate::number::read_number;
 use crate::places::Places;
@@ -28,8 +28,8 @@ pub(crate) fn read_row<'a>(
     order_as: OrderAs,
     number: u64,
 ) -> Result<Fields<'a>, Refusal>
-    ensures ok { IfOk result (λ fields. (header : List (List ℕ)) (columns : Columns) → ArePlaces header columns places.now → columns.order_as ≡ order_as → SaysEvent columns.order_as (event_of columns header (fields_of row.now)) fields × (row_fault columns header (fields_of row.now) number ≡ None)) }
-    ensures err { IfErr result (λ e. (header : List (List ℕ)) (columns : Columns) → ArePlaces header columns places.now → columns.order_as ≡ order_as → row_fault columns header (fields_of row.now) number ≡ Some e) }
+    ensures ok { IfOk result (SaysRow places.now order_as (fields_of row.now) number) }
+    ensures err { IfErr result (HasRowFault places.now order_as (fields_of row.now) number) }
 {
     let Some((case, activity, value)) = wanted_fields(row, places) else {
         return Err(Refusal::ShortRow { row: number });
@@ -53,9 +53,9 @@ fn wanted_fields<'a>(
     row: &'a ByteRecord,
     places: &Places,
 ) -> Option<(&'a [u8], &'a [u8], Option<&'a [u8]>)>
-    ensures case { IfSome result (λ found. found.0.now ≡ slice_index_or (fields_of row.now) places.now.case []) }
-    ensures activity { IfSome result (λ found. found.1.now ≡ slice_index_or (fields_of row.now) places.now.activity []) }
-    ensures value { IfSome result (λ found. option_map (λ v. v.now) found.2 ≡ option_map (λ place. slice_index_or (fields_of row.now) place []) places.now.order) }
+    ensures case { IfSome result (λ found. found.0.now ≡ field_in (fields_of row.now) places.now.case) }
+    ensures activity { IfSome result (λ found. found.1.now ≡ field_in (fields_of row.now) places.now.activity) }
+    ensures value { IfSome result (λ found. value_of found.2 ≡ option_map (field_in (fields_of row.now)) places.now.order) }
     ensures all { IfSome result (λ _. lacks_field places.now (fields_of row.now) ≡ false) }
     ensures none { IfNone result (lacks_field places.now (fields_of row.now) ≡ true) }
 {
@@ -69,7 +69,7 @@ fn wanted_fields<'a>(
 
 /// The field at this place, where the row is long enough.
 pub(crate) fn field_at(row: &ByteRecord, place: usize) -> Option<&[u8]>
-    ensures some { IfSome result (λ field. field.now ≡ slice_index_or (fields_of row.now) place []) }
+    ensures some { IfSome result (λ field. field.now ≡ field_in (fields_of row.now) place) }
     ensures inside { IfSome result (λ _. nat_le (length (fields_of row.now)) place ≡ false) }
     ensures none { IfNone result (nat_le (length (fields_of row.now)) place ≡ true) }
 {
@@ -99,9 +99,10 @@ fn text_of(field: &[u8]) -> Option<&str>
 
 /// By what an event of this value is ordered, as a number and as a text.
 fn read_value(value: Option<&[u8]>, order_as: OrderAs) -> Option<(i64, &[u8])>
-    ensures some { IfSome result (λ keys. (keys.0 ≡ number_key order_as (option_map (λ v. v.now) value.entry)) × (keys.1.now ≡ text_key order_as (option_map (λ v. v.now) value.entry))) }
-    ensures numbers { IfSome result (λ _. has_no_number order_as (option_map (λ v. v.now) value.entry) ≡ false) }
-    ensures none { IfNone result (has_no_number order_as (option_map (λ v. v.now) value.entry) ≡ true) }
+    ensures number { IfSome result (λ keys. keys.0 ≡ number_key order_as (value_of value.entry)) }
+    ensures text { IfSome result (λ keys. keys.1.now ≡ text_key order_as (value_of value.entry)) }
+    ensures numbers { IfSome result (λ _. has_no_number order_as (value_of value.entry) ≡ false) }
+    ensures none { IfNone result (has_no_number order_as (value_of value.entry) ≡ true) }
 {
     match (value, order_as) {
         (None, _) => Some((0, b"")),

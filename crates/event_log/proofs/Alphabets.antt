@@ -1,4 +1,4 @@
--- The alphabet of a log ascends, so it has each name once, and it has the names of the log and no others.
+-- The sorted names of a log ascend, so each stands there once, and they are the names of the log and no others.
 use Rattle.std.proofs.Common.{suc, ◌+◌, ◌≤◌, ◌++◌, length, cond, append-nil, append_assoc, true≢false, arith, ◌≡◌, ℕ, List, [], ◌∷◌, fold, Ordering, refl, sym, ap, ◌∙◌, subst}
 use Rattle.std.specs.declared.cmp.Ordering.TheVariants.{Less, Equal, Greater}
 use Rattle.std.specs.BTreeSet.{insert_key}
@@ -12,7 +12,7 @@ use Rattle.std.specs.Ordering.{is_eq}
 use Rattle.std.specs.Cmp.Lexicographic.{bytes_decides}
 use Rattle.std.specs.List.Sorted.{IsStrictlySortedBy}
 use Rattle.std.specs.Ordering.{nat_cmp, match_ordering, ordering_reverse}
-use Rattle.event_log.specs.Logs.{alphabet, in_byte_order, events_of, has_name, with_name, first_seen}
+use Rattle.event_log.specs.Logs.{sorted_names, in_byte_order, events_of, has_name, with_name, first_seen}
 
 module _ {K : Type 0} (cmp : K → K → Ordering) (total : IsTotalOrder cmp) where
   below_all : (k x : K) (xs : List K) → cmp k x ≡ Less → AllByRecursion (λ y. cmp x y ≡ Less) xs → AllByRecursion (λ y. cmp k y ≡ Less) xs
@@ -49,10 +49,10 @@ pub in_byte_order-ascends : (names : List (List ℕ)) → IsStrictlySortedBy (sl
 unfolding IsStrictlySortedBy
 in_byte_order-ascends names = inserts-ascend (slice_cmp nat_cmp) nat_list_cmp_total [] names tt
 
-pub alphabet-ascends : (log : List (List (List ℕ))) → IsStrictlySortedBy (slice_cmp nat_cmp) (alphabet log)
-alphabet-ascends log = in_byte_order-ascends (events_of log)
+pub sorted_names-ascends : (log : List (List (List ℕ))) → IsStrictlySortedBy (slice_cmp nat_cmp) (sorted_names log)
+sorted_names-ascends log = in_byte_order-ascends (events_of log)
 
--- ---- the names of an alphabet are those of the log
+-- ---- the names of an sorted_names are those of the log
 
 abbrev is_name : List ℕ → List ℕ → Bool
 is_name name n = bytes_eq name n
@@ -99,8 +99,8 @@ in_byte_order-has names name = has-inserts name [] names ∙ or_none (has_name n
     or_none true = refl
     or_none false = refl
 
-pub alphabet-has : (log : List (List (List ℕ))) (name : List ℕ) → has_name (alphabet log) name ≡ has_name (events_of log) name
-alphabet-has log name = in_byte_order-has (events_of log) name
+pub sorted_names-has : (log : List (List (List ℕ))) (name : List ℕ) → has_name (sorted_names log) name ≡ has_name (events_of log) name
+sorted_names-has log name = in_byte_order-has (events_of log) name
 
 -- ---- an order takes no name more
 

@@ -1,13 +1,13 @@
 -- Names that appear one after another: each that is new goes last.
-use Rattle.std.proofs.Common.{◌≡◌, ℕ, suc, ◌+◌, ◌<◌, ◌≤◌, List, [], ◌∷◌, ◌++◌, Bool, true, false, cond, eqb, not, ◌||◌, fold, length, refl, sym, ap, ◌∙◌, arith, append-nil, append_assoc, true≢false}
+use Rattle.std.proofs.Common.{◌≡◌, ℕ, suc, ◌+◌, ◌<◌, ◌≤◌, List, [], ◌∷◌, ◌++◌, Bool, true, false, cond, eqb, not, ◌||◌, fold, length, refl, sym, ap, ◌∙◌, arith, append-nil, append_assoc, true≢false, ⊎_elim}
 use Rattle.std.specs.Prelude.{slice_index_or}
-use Rattle.std.proofs.lemmas.Bool.{eqb-true, ne_eqb}
+use Rattle.std.proofs.lemmas.Bool.{cases_lt, eqb-true, ne_eqb}
 use Rattle.std.proofs.lemmas.List.{get_or_append_left, length_push}
 use Rattle.std.proofs.lemmas.List.Folds.{list_any_at, position_or_len_push}
-use Rattle.std.proofs.lemmas.List.Sums.{passes_at_first}
+use Rattle.std.proofs.lemmas.List.Sums.{fold_push, passes_at_first}
 use Rattle.std.specs.Cmp.Lexicographic.{bytes_decides}
 use Rattle.std.specs.Str.{bytes_eq}
-use Rattle.event_log.specs.Logs.{events_of, has_name, place_of, with_name}
+use Rattle.event_log.specs.Logs.{events_of, first_seen, has_name, place_of, with_name}
 
 pub events_of-append : {A : Type 0} (front more : List (List A)) → events_of (front ++ more) ≡ events_of front ++ events_of more
 events_of-append [] more = refl
@@ -101,3 +101,45 @@ pub seen-keeps : (names events : List (List ℕ)) (id : ℕ) → id < length nam
 seen-keeps names [] id inside = refl
 seen-keeps names (event ∷ events) id inside =
     seen-keeps (with_name names event) events id (omega (arith, with_name-least names event)) ∙ with_name-keeps names event id inside
+
+pub first_seen-push : (names : List (List ℕ)) (name : List ℕ) → first_seen (names ++ name ∷ []) ≡ with_name (first_seen names) name
+first_seen-push names name = fold_push with_name [] names name
+
+-- ---- names that stand once
+
+abbrev pub StandOnce : List (List ℕ) → Type 0
+StandOnce names = (place : ℕ) → place < length names → place_of names (slice_index_or names place []) ≡ place
+
+once-with_name : (names : List (List ℕ)) (name : List ℕ) → StandOnce names → StandOnce (with_name names name)
+once-with_name names name once = λ place inside. ⊎_elim (before place) (behind place inside) (cases_lt place (length names))
+  where
+    before : (place : ℕ) → place < length names → place_of (with_name names name) (slice_index_or (with_name names name) place []) ≡ place
+    before place below =
+        ap (place_of (with_name names name)) (with_name-keeps names name place below)
+        ∙ place_of-keeps names (slice_index_or names place []) name (omega (arith, once place below, below)) ∙ once place below
+
+    is_new : (place : ℕ) → place < length (with_name names name) → length names ≤ place → (b : Bool) → has_name names name ≡ b → b ≡ false
+    is_new place inside above true e = absurd (omega (arith, inside, ap (λ b. length (cond b names (names ++ name ∷ []))) e, above))
+    is_new place inside above false e = refl
+
+    missed : has_name names name ≡ false → length names ≤ place_of names name
+    missed new = ⊎_elim (λ k. absurd (true≢false (sym (has_name-at_place names name k) ∙ new))) (λ k. k) (cases_lt (place_of names name) (length names))
+
+    behind : (place : ℕ) → place < length (with_name names name) → length names ≤ place → place_of (with_name names name) (slice_index_or (with_name names name) place []) ≡ place
+    behind place inside above =
+        let new : has_name names name ≡ false = is_new place inside above (has_name names name) refl in
+        let put = place-with_name names name in
+        let at : place_of names name ≡ place = omega (arith, missed new, put.0, with_name-new names name new, inside, above) in
+        ap (λ n. place_of (with_name names name) (slice_index_or (with_name names name) n [])) (sym at)
+        ∙ ap (place_of (with_name names name)) put.1 ∙ place_of-put names name ∙ at
+
+once-seen : (names more : List (List ℕ)) → StandOnce names → StandOnce (fold with_name names more)
+once-seen names [] once = once
+once-seen names (name ∷ more) once = once-seen (with_name names name) more (once-with_name names name once)
+
+pub first_seen-once : (names : List (List ℕ)) → StandOnce (first_seen names)
+first_seen-once names = once-seen [] names (λ place inside. absurd (omega arith))
+
+-- two places of such names with one name are one
+pub one_place : (names : List (List ℕ)) (i j : ℕ) → StandOnce names → i < length names → j < length names → slice_index_or names i [] ≡ slice_index_or names j [] → i ≡ j
+one_place names i j once in_i in_j same = sym (once i in_i) ∙ ap (place_of names) same ∙ once j in_j

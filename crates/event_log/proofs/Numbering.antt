@@ -3,13 +3,13 @@ use Rattle.std.proofs.Common.{◌≡◌, ℕ, ◌<◌, List, [], ◌∷◌, ◌+
 use Rattle.std.specs.Prelude.{slice_index, slice_index_or}
 use Rattle.std.proofs.lemmas.List.{get_or-map, get_or_append_left, length-append}
 use Rattle.std.proofs.lemmas.List.Elements.{All-head, All-tail}
-use Rattle.event_log.specs.Logs.{alphabet, events_of, in_byte_order, named, place_of, ranked, IsNumbering}
+use Rattle.event_log.specs.Logs.{sorted_names, events_of, in_byte_order, named, place_of, by_ranks, IsNumbering}
 use Rattle.event_log.proofs.Alphabets.{ascending-same, in_byte_order-ascends, in_byte_order-has}
 
--- the alphabet of the log of names is the names in order
-pub alphabet-named : (names : List (List ℕ)) (ids : List (List ℕ)) → IsNumbering names ids → alphabet (named names ids) ≡ in_byte_order names
-alphabet-named names ids h =
-    ascending-same (alphabet (named names ids)) (in_byte_order names) (in_byte_order-ascends (events_of (named names ids))) (in_byte_order-ascends names)
+-- the sorted names of the log of names are the names in order
+pub sorted_names-named : (names : List (List ℕ)) (ids : List (List ℕ)) → IsNumbering names ids → sorted_names (named names ids) ≡ in_byte_order names
+sorted_names-named names ids h =
+    ascending-same (sorted_names (named names ids)) (in_byte_order names) (in_byte_order-ascends (events_of (named names ids))) (in_byte_order-ascends names)
     (λ name. in_byte_order-has (events_of (named names ids)) name ∙ h.used name ∙ sym (in_byte_order-has names name))
 
 pub All-front : (P : ℕ → Type 0) (xs ys : List ℕ) → All P (xs ++ ys) → All P xs
@@ -38,10 +38,10 @@ map-map-names names f (trace ∷ ids) = ap₂ (λ x l. x ∷ l) (inner trace) (m
     inner (id ∷ trace) = ap (λ l. f (slice_index_or names id []) ∷ l) (inner trace)
 
 -- the log with each number replaced by the rank at its place is the log of names with each name replaced by its rank
-pub ranked-named : (names : List (List ℕ)) (ids : List (List ℕ)) → IsNumbering names ids
-    → ranked (named names ids) ≡ map (map (slice_index (map (place_of (in_byte_order names)) names))) ids
-ranked-named names ids h =
-    ap (λ l. map (map (place_of l)) (named names ids)) (alphabet-named names ids h)
+pub by_ranks-named : (names : List (List ℕ)) (ids : List (List ℕ)) → IsNumbering names ids
+    → by_ranks (named names ids) ≡ map (map (slice_index (map (place_of (in_byte_order names)) names))) ids
+by_ranks-named names ids h =
+    ap (λ l. map (map (place_of l)) (named names ids)) (sorted_names-named names ids h)
     ∙ map-map-names names (place_of (in_byte_order names)) ids
     ∙ maps-agree (λ id. place_of (in_byte_order names) (slice_index_or names id [])) (slice_index (map (place_of (in_byte_order names)) names)) (length names)
     (λ id inside. sym (get_or-map (place_of (in_byte_order names)) names id [] 0 inside)) ids h.inside

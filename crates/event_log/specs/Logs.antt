@@ -14,7 +14,7 @@ events_of log = flat_map (λ trace. trace) log
 abbrev pub has_name : List (List ℕ) → List ℕ → Bool
 has_name names name = list_any (bytes_eq name) names
 
--- the place of the first of them that is the name, or the number of names: its rank where they are an alphabet
+-- the place of the first of them that is the name, or the number of names: its rank where they are sorted
 abbrev pub place_of : List (List ℕ) → List ℕ → ℕ
 place_of names name = position_or_len (bytes_eq name) names
 
@@ -23,12 +23,12 @@ abbrev pub in_byte_order : List (List ℕ) → List (List ℕ)
 in_byte_order names = fold (insert_key (slice_cmp nat_cmp)) [] names
 
 -- the different names of a log, in the order of their bytes
-abbrev pub alphabet : List (List (List ℕ)) → List (List ℕ)
-alphabet log = in_byte_order (events_of log)
+abbrev pub sorted_names : List (List (List ℕ)) → List (List ℕ)
+sorted_names log = in_byte_order (events_of log)
 
 -- the log with each name replaced by its rank
-abbrev pub ranked : List (List (List ℕ)) → List (List ℕ)
-ranked log = map (map (place_of (alphabet log))) log
+abbrev pub by_ranks : List (List (List ℕ)) → List (List ℕ)
+by_ranks log = map (map (place_of (sorted_names log))) log
 
 -- a new name goes last
 abbrev pub with_name : List (List ℕ) → List ℕ → List (List ℕ)

@@ -4,14 +4,14 @@ ghost use Rattle.std.specs.Prelude.{◌≡◌, List, ℕ};
 ghost use Rattle.std.specs.Cmp.Lexicographic.{slice_cmp};
 ghost use Rattle.std.specs.List.Sorted.{IsStrictlySortedBy};
 ghost use Rattle.std.specs.Ordering.{nat_cmp};
-ghost use Rattle.event_log.specs.Logs.{alphabet, events_of, has_name};
+ghost use Rattle.event_log.specs.Logs.{sorted_names, events_of, has_name};
 
-/// The names of an alphabet ascend in the order of their bytes, so each stands there once.
-pub fn alphabet_ascends()
-    ensures { (log : List (List (List ℕ))) → IsStrictlySortedBy (slice_cmp nat_cmp) (alphabet log) }
+/// The different names of a log ascend in the order of their bytes, so each stands there once.
+pub fn sorted_names_ascend()
+    ensures { (log : List (List (List ℕ))) → IsStrictlySortedBy (slice_cmp nat_cmp) (sorted_names log) }
 {}
 
-/// An alphabet has the names of its log and no others.
-pub fn alphabet_has_the_names()
-    ensures { (log : List (List (List ℕ))) (name : List ℕ) → has_name (alphabet log) name ≡ has_name (events_of log) name }
+/// They are the names of its events and no others.
+pub fn sorted_names_are_those_of_the_log()
+    ensures { (log : List (List (List ℕ))) (name : List ℕ) → has_name (sorted_names log) name ≡ has_name (events_of log) name }
 {}

@@ -1,6 +1,6 @@
-ghost use Rattle.std.specs.Prelude.{◌≡◌, ◌++◌, ◌∷◌, [], ℕ, List, IfErr, OnOk};
+ghost use Rattle.std.specs.Prelude.{◌≡◌, ℕ, List, IfErr, OnOk};
 ghost use Rattle.decl_base.specs.declared.limits.Limits.{Limits};
-ghost use Rattle.strings_log.specs.Sink.{HasRoom};
+ghost use Rattle.strings_log.specs.Sink.{HasRoomFor, Takes};
 
 use decl_base::Refusal;
 use event_log::Log;
@@ -12,9 +12,8 @@ pub trait TraceSink {
 
     /// Takes a trace, after which so many activities are known.
     fn take(&mut self, activities: u32, trace: &[u32]) -> Result<(), Refusal>
-        requires { (limits : Limits) × (before : ℕ) × (traces : List (List ℕ)) × holds self.old limits before traces × HasRoom limits before traces activities trace.now }
-        ensures ok { OnOk result ((limits : Limits) (before : ℕ) (traces : List (List ℕ)) → holds self.old limits before traces
-            → HasRoom limits before traces activities trace.now → holds self.new limits activities (traces ++ trace.now ∷ [])) }
+        requires { HasRoomFor (holds self.old) activities trace.now }
+        ensures ok { OnOk result (Takes (holds self.old) (holds self.new) activities trace.now) }
         ensures err { IfErr result (λ e. e ≡ Refusal.Memory) };
 }
 

@@ -1,3 +1,4 @@
-pub mod Decided
+pub mod Chosen
 pub mod Floats
 pub mod Values
+mod WholeReport

@@ -1,17 +1,20 @@
 -- Reports as JSON values, and their texts. The members of an object stand in the byte order of their names.
-use Rattle.std.specs.Prelude.{ℕ, List, [], ◌∷◌, ◌++◌, Bool, true, false, if◌then◌else◌, map, codes, slice_get, unwrap_or}
-use Rattle.serde_json.specs.Data.{Data, Members, number, unsigned, string, array, object, item, no_items, member, no_members}
+use Rattle.std.specs.Prelude.{◌≡◌, ◌≤◌, ◌==◌, ℕ, List, [], ◌∷◌, ◌++◌, Bool, true, false, not, if◌then◌else◌, map, codes, slice_get, unwrap_or, Some}
+use Rattle.std.specs.List.{filter, zip}
+use Rattle.serde_json.specs.Data.{Data, Members, number, unsigned, string, array, object, item, no_items, member, no_members, depth}
+use Rattle.serde_json.specs.Read.{read, max_depth}
 use Rattle.serde_json.specs.View.{items_of}
 use Rattle.serde_json.specs.Written.{compact_text}
 use Rattle.decl_base.specs.Fraction.{Fraction}
+use Rattle.template_core.specs.Constraints.{arity}
 use Rattle.template_core.specs.declared.constraint.Constraint.{Constraint}
-use Rattle.template_core.specs.declared.kind.Kind.{Kind}
-use Rattle.template_core.specs.declared.kind.Kind.TheVariants.{Init, End, Participation, AtMostOne}
 use Rattle.template_set.specs.Names.{name_of}
 use Rattle.scoring.specs.declared.scored.Scored.{Scored}
 use Rattle.reduce_model.specs.Sifting.{Sifting}
 use Rattle.reduce_model.specs.declared.decision.Decision.{Decision}
-use Rattle.reduce_model.specs.declared.decision.Decision.TheVariants.{Kept, Conflict}
+use Rattle.reduce_model.specs.declared.decision.Decision.TheVariants.{Kept, Conflict, Weaker, FirstPass, SecondPass}
+
+-- ---- a constraint
 
 -- a score is a list of its numerator and its denominator
 abbrev pub fraction_value : Fraction → Data
@@ -22,19 +25,21 @@ abbrev pub name_at : List (List ℕ) → ℕ → List ℕ
 name_at names rank = unwrap_or (slice_get names rank) []
 
 -- the activities that are put in, by their ranks
-abbrev pub activities_of : Kind → ℕ → ℕ → List ℕ
-activities_of Init first second = first ∷ []
-activities_of End first second = first ∷ []
-activities_of Participation first second = first ∷ []
-activities_of AtMostOne first second = first ∷ []
-activities_of kind first second = first ∷ second ∷ []
+abbrev pub activities_of : Constraint → List ℕ
+activities_of c = if arity c.kind == 1 then c.first ∷ [] else c.first ∷ c.second ∷ []
 
 -- a list with one name
 abbrev pub parameter_value : List (List ℕ) → ℕ → Data
 parameter_value names rank = array (item (string (name_at names rank)) no_items)
 
 abbrev pub parameters_value : List (List ℕ) → Constraint → Data
-parameters_value names c = array (items_of (map (parameter_value names) (activities_of c.kind c.first c.second)))
+parameters_value names c = array (items_of (map (parameter_value names) (activities_of c)))
+
+-- a constraint without its scores
+abbrev pub constraint_value : List (List ℕ) → Constraint → Data
+constraint_value names c = object
+    (member (codes "parameters") (parameters_value names c)
+    (member (codes "template") (string (name_of c.kind)) no_members))
 
 -- the members of a constraint with its scores, before those that come behind them
 abbrev pub scored_members : List (List ℕ) → Scored → Members → Members
@@ -48,6 +53,49 @@ scored_members names s more =
 abbrev pub scored_value : List (List ℕ) → Scored → Data
 scored_value names s = object (scored_members names s no_members)
 
+-- a trace is a list of names
+abbrev pub trace_value : List (List ℕ) → List ℕ → Data
+trace_value names trace = array (items_of (map (λ rank. string (name_at names rank)) trace))
+
+-- a constraint with the trace that breaks it alone
+abbrev pub witnessed_value : List (List ℕ) → Scored → List ℕ → Data
+witnessed_value names s witness = object (scored_members names s (member (codes "witness") (trace_value names witness) no_members))
+
+-- ---- what stays and what is dropped
+
+abbrev pub is_kept : Decision → Bool
+is_kept Kept = true
+is_kept Conflict = false
+is_kept (Weaker by) = false
+is_kept FirstPass = false
+is_kept SecondPass = false
+
+-- the candidates whose decision passes, with it, in their order
+abbrev pub decided : (Decision → Bool) → List Scored → List Decision → List (Scored × Decision)
+decided passes list decisions = filter (λ p. passes p.1) (zip list decisions)
+
+-- the candidates that stay
+abbrev pub staying : List Scored → List Decision → List Scored
+staying list decisions = map (λ p. p.0) (decided is_kept list decisions)
+
+-- the last member of a dropped constraint
+abbrev pub why : List ℕ → Members
+why reason = member (codes "why") (string reason) no_members
+
+-- a candidate of the list with what its decision tells: why it is dropped, and for a weaker one the constraint that is above it
+abbrev pub decided_value : List (List ℕ) → List Scored → Scored → Decision → Data
+decided_value names list s Kept = scored_value names s
+decided_value names list s Conflict = object (scored_members names s (why (codes "conflict")))
+decided_value names list s (Weaker by) = object
+    (member (codes "by") (constraint_value names (unwrap_or (slice_get list by) s).constraint) (scored_members names s (why (codes "weaker"))))
+decided_value names list s FirstPass = object (scored_members names s (why (codes "first-pass")))
+decided_value names list s SecondPass = object (scored_members names s (why (codes "second-pass")))
+
+abbrev pub dropped_values : List (List ℕ) → List Scored → List Decision → List Data
+dropped_values names list decisions = map (λ p. decided_value names list p.0 p.1) (decided (λ d. not (is_kept d)) list decisions)
+
+-- ---- whole reports, of the names, the candidates with their scores, and the numbers of traces and events
+
 -- the members of a report of stage `scores`
 abbrev pub scores_object : List Data → ℕ → List Data → ℕ → Data
 scores_object constraints events tasks traces = object
@@ -56,37 +104,9 @@ scores_object constraints events tasks traces = object
     (member (codes "tasks") (array (items_of tasks))
     (member (codes "traces") (number (unsigned traces)) no_members))))
 
--- the report of all candidates with their scores: of the names, the candidates, the numbers of traces and events
-abbrev pub scores_report : List (List ℕ) → List Scored → ℕ → ℕ → Data
-scores_report names list traces events =
-    scores_object (map (scored_value names) list) events (map string names) traces
-
--- the constraints whose decision passes, in their order
-abbrev pub decided : (Decision → Bool) → List Scored → List Decision → List Scored
-decided passes [] decisions = []
-decided passes (s ∷ list) [] = []
-decided passes (s ∷ list) (decision ∷ decisions) =
-    if passes decision then s ∷ decided passes list decisions else decided passes list decisions
-
-abbrev pub is_kept : Decision → Bool
-is_kept Kept = true
-is_kept decision = false
-
-abbrev pub is_conflict : Decision → Bool
-is_conflict Conflict = true
-is_conflict decision = false
-
--- a dropped constraint tells why
-abbrev pub conflict_value : List (List ℕ) → Scored → Data
-conflict_value names s = object (scored_members names s (member (codes "why") (string (codes "conflict")) no_members))
-
--- a trace is a list of names
-abbrev pub trace_value : List (List ℕ) → List ℕ → Data
-trace_value names trace = array (items_of (map (λ rank. string (name_at names rank)) trace))
-
--- the members of a report of stage `consistent`
-abbrev pub consistent_object : List Data → List Data → ℕ → Data → List Data → ℕ → Data
-consistent_object constraints dropped events example tasks traces = object
+-- the members of a report of the stages `consistent` and `model`
+abbrev pub report_object : List Data → List Data → ℕ → Data → List Data → ℕ → Data
+report_object constraints dropped events example tasks traces = object
     (member (codes "constraints") (array (items_of constraints))
     (member (codes "dropped") (array (items_of dropped))
     (member (codes "events") (number (unsigned events))
@@ -94,12 +114,29 @@ consistent_object constraints dropped events example tasks traces = object
     (member (codes "tasks") (array (items_of tasks))
     (member (codes "traces") (number (unsigned traces)) no_members))))))
 
--- the report of the candidates that stay where conflicts are removed, those that are dropped, and the least trace that keeps all that stay
+-- all candidates with their scores
+abbrev pub scores_report : List (List ℕ) → List Scored → ℕ → ℕ → Data
+scores_report names list traces events =
+    scores_object (map (scored_value names) list) events (map string names) traces
+
+-- the candidates that stay where conflicts are removed, those that are dropped, and the least trace that keeps all that stay
 abbrev pub consistent_report : List (List ℕ) → List Scored → Sifting → ℕ → ℕ → Data
 consistent_report names list sifting traces events =
-    consistent_object (map (scored_value names) (decided is_kept list sifting.decisions)) (map (conflict_value names) (decided is_conflict list sifting.decisions))
+    report_object (map (scored_value names) (staying list sifting.decisions)) (dropped_values names list sifting.decisions)
     events (trace_value names sifting.example) (map string names) traces
+
+-- the candidates that stay, each with its witness, those that are dropped, and the least trace that keeps all that stay
+abbrev pub model_report : List (List ℕ) → List Scored → List Decision → List (List ℕ) → List ℕ → ℕ → ℕ → Data
+model_report names list decisions witnesses example traces events =
+    report_object (map (λ p. witnessed_value names p.0 p.1) (zip (staying list decisions) witnesses)) (dropped_values names list decisions)
+    events (trace_value names example) (map string names) traces
+
+-- ---- texts
 
 -- the value with no space, and a line feed
 abbrev pub report_text : Data → List ℕ
 report_text value = compact_text value ++ (10 ∷ [])
+
+-- a line that reads as the value, unless it nests too deep to be read
+abbrev pub IsLineOf : Data → List ℕ → Type 0
+IsLineOf value bytes = (text : List ℕ) × (bytes ≡ text ++ (10 ∷ [])) × (depth value ≤ max_depth → read text ≡ Some value)

@@ -1,8 +1,10 @@
 //! Reports as JSON values, and their texts.
 #![tactic(auto)]
 
+mod constraints;
+mod decisions;
 mod report;
 mod text;
 
-pub use report::{consistent_value, scores_value};
+pub use report::{consistent_value, model_value, scores_value};
 pub use text::text_of;

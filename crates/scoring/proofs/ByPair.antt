@@ -9,7 +9,8 @@ use Rattle.template_core.proofs.Laws.{sum_by-same, sum_by-plus}
 use Rattle.template_core.specs.declared.constraint.Constraint.{Constraint}
 use Rattle.template_core.specs.declared.kind.Kind.{Kind}
 use Rattle.template_set.specs.Names.{all_kinds}
-use Rattle.scoring.specs.Candidates.{takes, constraint_of, constraints_from, constraints_of, constraints_over, IsConstraintOver, reaches_all}
+use Rattle.template_core.specs.Groups.{takes}
+use Rattle.scoring.specs.Candidates.{constraint_of, constraints_from, constraints_of, constraints_over, IsConstraintOver, reaches_all}
 use Rattle.scoring.specs.Scores.{scored}
 use Rattle.scoring.specs.Search.{taken, constraints_at, constraints_of_two, constraints_with_smaller, constraints_by_pair, reaching_of}
 use Rattle.scoring.specs.declared.scored.Scored.{Scored}

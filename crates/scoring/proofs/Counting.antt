@@ -10,7 +10,8 @@ use Rattle.template_core.specs.declared.counts.UnaryCounts.{UnaryCounts}
 use Rattle.template_core.specs.declared.kind.Kind.{Kind}
 use Rattle.template_core.specs.declared.kind.Kind.TheVariants.{Init, End, Participation, AtMostOne, CoExistence, NotCoExistence}
 use Rattle.template_set.specs.declared.numbers.Numbers.{Numbers}
-use Rattle.scoring.specs.Candidates.{takes, reaches_all}
+use Rattle.template_core.specs.Groups.{takes}
+use Rattle.scoring.specs.Candidates.{reaches_all}
 use Rattle.scoring.specs.Scores.{scored_from}
 use Rattle.scoring.specs.Scorable.{IsScorable}
 use Rattle.scoring.proofs.Numbers.{equal_from, differ_from, differ_from_less}

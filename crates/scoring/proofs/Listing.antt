@@ -10,7 +10,8 @@ use Rattle.template_core.specs.Constraints.{number_of}
 use Rattle.template_core.specs.declared.constraint.Constraint.{Constraint}
 use Rattle.template_core.specs.declared.kind.Kind.{Kind}
 use Rattle.template_set.specs.Names.{all_kinds}
-use Rattle.scoring.specs.Candidates.{takes, constraint_of, constraints_from, constraints_of, constraints_over}
+use Rattle.template_core.specs.Groups.{takes}
+use Rattle.scoring.specs.Candidates.{constraint_of, constraints_from, constraints_of, constraints_over}
 use Rattle.scoring.specs.Priority.{constraint_cmp}
 use Rattle.scoring.proofs.Orders.{count-cons}
 

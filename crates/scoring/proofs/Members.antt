@@ -10,7 +10,8 @@ use Rattle.template_core.specs.declared.constraint.Constraint.{Constraint}
 use Rattle.template_core.specs.declared.kind.Kind.{Kind}
 use Rattle.template_core.specs.declared.kind.Kind.TheVariants.{Init, End, Participation, AtMostOne, ChainSuccession, AlternateSuccession, Succession, CoExistence, ChainResponse, AlternateResponse, Response, ChainPrecedence, AlternatePrecedence, Precedence, RespondedExistence, NotCoExistence, NotSuccession, NotChainSuccession}
 use Rattle.template_set.specs.Names.{all_kinds}
-use Rattle.scoring.specs.Candidates.{takes, constraint_of, constraints_from, constraints_of, constraints_over, IsConstraintOver, reaches_all, reaching, candidates_of, IsCandidate}
+use Rattle.template_core.specs.Groups.{takes}
+use Rattle.scoring.specs.Candidates.{constraint_of, constraints_from, constraints_of, constraints_over, IsConstraintOver, reaches_all, reaching, candidates_of, IsCandidate}
 use Rattle.scoring.specs.Priority.{priority_cmp, insert_in_order, in_order}
 use Rattle.scoring.specs.Scores.{scored_from, scored}
 use Rattle.scoring.specs.declared.scored.Scored.{Scored}

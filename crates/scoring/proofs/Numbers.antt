@@ -14,7 +14,8 @@ use Rattle.template_core.specs.declared.kind.Kind.TheVariants.{Init, End, Partic
 use Rattle.template_core.proofs.Gains.{occurs-count}
 use Rattle.template_core.proofs.Sizes.{activated-positive, activated-le, fulfilled-le, traces_of-le, targets_of-le}
 use Rattle.template_set.specs.Numbers.{numbers_of}
-use Rattle.scoring.specs.Candidates.{takes, IsConstraintOver, EachOccurs}
+use Rattle.template_core.specs.Groups.{takes}
+use Rattle.scoring.specs.Candidates.{IsConstraintOver, EachOccurs}
 use Rattle.scoring.specs.Scorable.{IsScorable}
 
 pub equal_from : (r s : ℕ) → (r == s) ≡ true → r ≡ s

@@ -12,7 +12,8 @@ use Rattle.template_core.specs.declared.constraint.Constraint.{Constraint}
 use Rattle.template_core.specs.declared.kind.Kind.{Kind}
 use Rattle.template_core.specs.declared.kind.Kind.TheVariants.{Init}
 use Rattle.template_set.specs.Names.{all_kinds}
-use Rattle.scoring.specs.Candidates.{takes, constraint_of, constraints_over, reaches_all, reaching, candidates_of, EachOccurs}
+use Rattle.template_core.specs.Groups.{takes}
+use Rattle.scoring.specs.Candidates.{constraint_of, constraints_over, reaches_all, reaching, candidates_of, EachOccurs}
 use Rattle.scoring.specs.Conditions.{HasEachEvent}
 use Rattle.scoring.specs.Found.{Holds}
 use Rattle.scoring.specs.Priority.{priority_cmp, in_order}

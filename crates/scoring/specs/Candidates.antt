@@ -8,23 +8,13 @@ use Rattle.decl_base.specs.declared.refusal.Refusal.TheVariants as refusal
 use Rattle.decl_base.specs.declared.threshold.Threshold.{Threshold}
 use Rattle.decl_base.specs.declared.threshold.Thresholds.{Thresholds}
 use Rattle.template_core.specs.Counts.{traces_with}
+use Rattle.template_core.specs.Groups.{takes}
 use Rattle.template_core.specs.declared.constraint.Constraint.{Constraint}
 use Rattle.template_core.specs.declared.kind.Kind.{Kind}
-use Rattle.template_core.specs.declared.kind.Kind.TheVariants.{Init, End, Participation, AtMostOne, CoExistence, NotCoExistence}
 use Rattle.template_set.specs.Names.{all_kinds}
 use Rattle.scoring.specs.Priority.{priority_cmp, in_order}
 use Rattle.scoring.specs.Scores.{scored}
 use Rattle.scoring.specs.declared.scored.Scored.{Scored}
-
--- which two ranks a template takes: one activity stands twice; two differ, and where their order says nothing the smaller is first
-abbrev pub takes : Kind → ℕ → ℕ → Bool
-takes Init first second = first == second
-takes End first second = first == second
-takes Participation first second = first == second
-takes AtMostOne first second = first == second
-takes CoExistence first second = nat_lt first second
-takes NotCoExistence first second = nat_lt first second
-takes kind first second = not (first == second)
 
 abbrev pub constraint_of : Kind → ℕ → ℕ → Constraint
 constraint_of kind first second = record { kind = kind; first = first; second = second }

@@ -9,7 +9,8 @@ use Rattle.template_core.specs.declared.constraint.Constraint.{Constraint}
 use Rattle.template_core.specs.declared.counts.Counts.{Counts}
 use Rattle.template_core.specs.declared.kind.Kind.{Kind}
 use Rattle.template_set.specs.Names.{all_kinds}
-use Rattle.scoring.specs.Candidates.{takes, constraint_of, EachOccurs, reaches_all}
+use Rattle.template_core.specs.Groups.{takes}
+use Rattle.scoring.specs.Candidates.{constraint_of, EachOccurs, reaches_all}
 use Rattle.scoring.specs.Conditions.{AreThresholds}
 use Rattle.scoring.specs.Found.{Holds}
 use Rattle.scoring.specs.Scores.{scored}

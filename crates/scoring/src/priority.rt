@@ -1,13 +1,12 @@
 ghost use Rattle.std.specs.Prelude.{◌≡◌, List, ℕ, OnOk, IfErr, vec_len};
 ghost use Rattle.std.specs.List.{AllByRecursion};
-ghost use Rattle.template_core.specs.Constraints.{number_of};
 ghost use Rattle.scoring.specs.Priority.{constraint_cmp, priority_cmp, in_order};
 ghost use Rattle.scoring.specs.Scores.{HasScores, IsScored};
 
 use crate::Scored;
 use decl_base::Refusal;
 use std::cmp::Ordering;
-use template_core::{Constraint, Kind};
+use template_core::{Constraint, number_of};
 
 /// Puts a log's scored constraints into the order of priority.
 pub(crate) fn sort(list: &mut Vec<Scored>) -> Result<(), Refusal>
@@ -37,15 +36,8 @@ fn by_priority(a: &Scored, b: &Scored) -> Ordering
 fn by_number(a: &Constraint, b: &Constraint) -> Ordering
     ensures { result ≡ constraint_cmp a.now b.now }
 {
-    number(a.kind)
-        .cmp(&number(b.kind))
+    number_of(a.kind)
+        .cmp(&number_of(b.kind))
         .then(a.first.cmp(&b.first))
         .then(a.second.cmp(&b.second))
-}
-
-/// The number of a template.
-fn number(kind: Kind) -> u8
-    ensures { result ≡ number_of kind }
-{
-    kind as u8 + 1
 }

@@ -1,6 +1,7 @@
 ghost use Rattle.std.specs.Prelude.{◌≡◌, ◌≢◌, ◌<◌, ◌≤◌, ◌+◌, ◌^◌, ℕ, List, Some, None, OnOk, IfErr, if◌then◌else◌};
 ghost use Rattle.interplay_kb.specs.Ranks.{TellsOf, rank_count};
-ghost use Rattle.scoring.specs.Candidates.{takes, IsConstraintOver, reaches_all};
+ghost use Rattle.template_core.specs.Groups.{takes};
+ghost use Rattle.scoring.specs.Candidates.{IsConstraintOver, reaches_all};
 ghost use Rattle.scoring.specs.Scores.{scored};
 ghost use Rattle.scoring.specs.Search.{taken, constraints_at, constraints_of_two, constraints_with_smaller, constraints_by_pair, turned, HasCounts, IsReady, Finds};
 
@@ -9,7 +10,7 @@ use crate::found::Found;
 use crate::scorer::reaching;
 use decl_base::{Refusal, Thresholds};
 use interplay_kb::RankedKb;
-use template_core::{Constraint, Counts, Kind, PairCounts};
+use template_core::{Constraint, Counts, Kind, PairCounts, takes};
 use template_set::{counts_of, kinds};
 
 /// The counters of a template of one activity have no pair.
@@ -193,16 +194,5 @@ impl Search<'_> {
             onward: self.counters.pair(first, second),
             back: self.counters.pair(second, first),
         }
-    }
-}
-
-/// Whether a template takes the two ranks in this order.
-fn takes(kind: Kind, first: u32, second: u32) -> bool
-    ensures { result ≡ takes kind first second }
-{
-    match kind {
-        Kind::Init | Kind::End | Kind::Participation | Kind::AtMostOne => first == second,
-        Kind::CoExistence | Kind::NotCoExistence => first < second,
-        _ => first != second,
     }
 }

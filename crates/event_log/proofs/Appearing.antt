@@ -55,7 +55,7 @@ place-with_name (y ∷ names) name =
           let pushed = cond-push (has_name names name) y name names in (
             omega (arith, ap length pushed, rest.0),
             ap (λ l. slice_index_or l (1 + place_of names name) []) pushed
-            ∙ ap (λ n. slice_index_or (y ∷ with_name names name) n []) {x = 1 + place_of names name} {y = suc (place_of names name)} (omega arith) ∙ rest.1,
+                ∙ ap (λ n. slice_index_or (y ∷ with_name names name) n []) {x = 1 + place_of names name} {y = suc (place_of names name)} (omega arith) ∙ rest.1,
           )
     ] refl
 

@@ -8,5 +8,5 @@ mod log;
 mod tests;
 
 pub use alphabet::Alphabet;
-pub use laws::{sorted_names_ascend, sorted_names_are_those_of_the_log};
+pub use laws::{sorted_names_are_those_of_the_log, sorted_names_ascend};
 pub use log::Log;

@@ -1,12 +1,11 @@
 -- Cells that are filled state by state, and walks along them.
 use Rattle.std.proofs.Common.{◌≡◌, inl, inr, ℕ, zero, suc, ◌+◌, ◌*◌, ◌<◌, ◌≤◌, List, Option, Some, None, Bool, true, false, ◌||◌, ◌&&◌, eqb, leb, length, get_or, set, replicate, refl, sym, ap, ◌∙◌, arith, get_or-set_same, get_or-set_other, length-set, eq-eqb}
 use Rattle.std.proofs.lemmas.Bool.{cases_eq, cases_lt}
-use Rattle.std.proofs.lemmas.List.{length-replicate}
 use Rattle.std.proofs.lemmas.Nat.{same_from_place, mul-add-lt}
 use Rattle.std.proofs.Math.Nat.{mul_comm}
 use Rattle.dfa_core.specs.Automaton.{Automaton, IsWhole, state_count, step}
 use Rattle.dfa_minimise.proofs.Progress.{AreFilled, LeadsTo, after}
-use Rattle.dfa_minimise.specs.Preimages.{AreSources, IsGreatest}
+use Rattle.dfa_minimise.specs.Preimages.{IsGreatest}
 use Rattle.dfa_minimise.proofs.Marking.{eqb_not, or-true, or-false}
 
 greatest-skip : (a : Automaton) (x t bound : ℕ) (o : Option ℕ) → (step a bound x ≡ t → ⊥) → IsGreatest a x t bound o → IsGreatest a x t (bound + 1) o

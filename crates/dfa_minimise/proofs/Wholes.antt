@@ -1,9 +1,7 @@
 -- One class of all states, and a class's states in a list.
-use Rattle.std.proofs.Common.{◌≡◌, inl, inr, ℕ, zero, suc, ◌+◌, ◌-◌, ◌<◌, ◌≤◌, ◌^◌, List, [], ◌∷◌, ◌++◌, Bool, true, false, ◌||◌, eqb, length, get_or, take, drop, refl, sym, ap, ◌∙◌, arith, length-take-le, length-drop, eq-eqb}
+use Rattle.std.proofs.Common.{◌≡◌, inl, inr, ℕ, zero, suc, ◌+◌, ◌-◌, ◌<◌, ◌≤◌, List, [], ◌∷◌, Bool, true, false, ◌||◌, eqb, length, get_or, take, drop, refl, sym, ap, ◌∙◌, arith, length-take-le, length-drop, eq-eqb}
 use Rattle.std.proofs.lemmas.Bool.{cases_eq}
-use Rattle.std.proofs.lemmas.List.{get_or-take, get_or-drop, get_or-map, length-map, length_push}
-use Rattle.dfa_core.proofs.Places.{pushed}
-use Rattle.dfa_minimise.proofs.Progress.{IsCounting}
+use Rattle.std.proofs.lemmas.List.{get_or-take, get_or-drop, get_or-map, length-map}
 use Rattle.dfa_minimise.specs.Partitions.{IsPartition, IsTidy, is_in, members_of}
 use Rattle.dfa_minimise.specs.Classes.{AreInClass}
 use Rattle.dfa_minimise.specs.declared.refinable.Refinable.{Refinable}

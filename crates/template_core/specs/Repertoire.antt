@@ -1,6 +1,6 @@
 -- The repertoire: at which places of a trace a constraint is activated, and where it is fulfilled.
 -- A trace of n events has the places 0 to n - 1, which are its events, and the place n, which stands for the whole trace.
-use Rattle.std.specs.Prelude.{◌≡◌, ℕ, suc, ◌≤◌, List, Bool, true, false, ◌&&◌, ◌||◌, not, if◌then◌else◌, ◌==◌, length, filter, sum_by, nat_lt}
+use Rattle.std.specs.Prelude.{◌≡◌, ℕ, suc, ◌≤◌, List, Bool, true, ◌&&◌, ◌||◌, not, if◌then◌else◌, ◌==◌, length, filter, sum_by, nat_lt}
 use Rattle.std.specs.List.{range_with_len}
 use Rattle.template_core.specs.Counters.{occurrences}
 use Rattle.template_core.specs.Events.{count_places, all_places, at_place, occurs, is_first, is_last, before_first, after_last}

@@ -16,6 +16,7 @@ pub(crate) struct Found {
 impl Found {
     ghost use Rattle.scoring.specs.Found.{Holds};
 
+    /// Nothing yet, and a list of at most so many.
     pub fn new(alloc: Global, limit: u64) -> Found
         ensures holds { Holds result [] }
         ensures limit { result.limit ≡ limit }

@@ -1,0 +1,14 @@
+use Rattle.std.proofs.Common.{ℕ, zero, suc, ◌<◌, [], ◌∷◌, nat_eq, ◌∙◌, arith, lit<}
+use Rattle.template_core.specs.Counts.{traces_with}
+use Rattle.end_to_end.proofs.candidates.ab_a_and_c.Goals as goal
+
+each : (rank : ℕ) → rank < 3 → 0 < traces_with nat_eq rank ((0 ∷ 1 ∷ []) ∷ (0 ∷ []) ∷ (2 ∷ []) ∷ [])
+each zero h = lit< tt
+each (suc zero) h = lit< tt
+each (suc (suc zero)) h = lit< tt
+each (suc (suc (suc n))) h = absurd (omega arith)
+
+pub returns-clause-events : goal.returns-clause-events
+returns-clause-events c =
+    let count = c.feed_trace-3.ensures.activities ∙ c.feed_trace-2.ensures.activities ∙ c.feed_trace.ensures.activities ∙ c.in_ok-kb.ensures.activities in
+    (_, c.feed_trace-3.ensures.stands _ (c.feed_trace-2.ensures.stands _ (c.feed_trace.ensures.stands _ c.in_ok-kb.ensures.stands)), λ rank h. each rank (omega (arith, count)))

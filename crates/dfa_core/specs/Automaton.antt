@@ -1,4 +1,4 @@
--- Automata as tables. All but their table is said of their steps.
+-- Automata as tables. What they accept is said of their steps, so that nothing else depends on the form of the table.
 use Rattle.std.specs.Prelude.{◌≡◌, ℕ, ◌*◌, ◌+◌, ◌<◌, ◌≤◌, ◌^◌, List, length, Bool, true, false, slice_index_or as get_or}
 use Rattle.dfa_core.specs.Shortlex.{IsBefore, IsAtMost}
 use Rattle.dfa_core.specs.Steps.{Steps, run as run_of, accepts as accepts_of}
@@ -27,12 +27,15 @@ step a q x = get_or a.next (q * a.symbols + x) 0
 abbrev pub is_accepting : Automaton → ℕ → Bool
 is_accepting a q = get_or a.accepting q false
 
+-- its steps
 abbrev pub steps_of : Automaton → Steps
 steps_of a = record { symbols = a.symbols; states = state_count a; start = a.start; next = step a; accepting = is_accepting a }
 
+-- the state after a trace
 abbrev pub run : Automaton → ℕ → List ℕ → ℕ
 run a = run_of (steps_of a)
 
+-- whether the run from the start ends at an accepting state
 abbrev pub accepts : Automaton → List ℕ → Bool
 accepts a = accepts_of (steps_of a)
 

@@ -1,4 +1,5 @@
 pub mod Chosen
 pub mod Floats
+mod ModelRows
 pub mod Values
 mod WholeReport

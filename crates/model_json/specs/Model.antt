@@ -1,0 +1,137 @@
+-- The model that a JSON value is, by rules on its members: the first rule that fails is the refusal.
+use Rattle.std.specs.Prelude.{ℕ, ◌+◌, ◌==◌, ◌||◌, List, [], ◌∷◌, Bool, true, false, if◌then◌else◌, nat_le, fold, codes, length, Option, None, Some, option_map, option_and_then, unwrap_or, Result, Ok, Err}
+use Rattle.std.specs.List.{find}
+use Rattle.std.specs.Option.{ok_or}
+use Rattle.std.specs.Str.{bytes_eq, is_utf8}
+use Rattle.serde_json.specs.Data.{Data, Items, no_items, item}
+use Rattle.serde_json.specs.Find.{get, as_str, as_array, as_number, as_u64, is_float}
+use Rattle.serde_json.specs.Read.{read}
+use Rattle.decl_base.specs.Limits.{standard}
+use Rattle.decl_base.specs.declared.refusal.Refusal.{Refusal}
+use Rattle.decl_base.specs.declared.refusal.Refusal.TheVariants.{NotJson, ModelShape, Candidates, Activities, UnknownTemplate, Parameters, SameParameter}
+use Rattle.event_log.specs.Logs.{with_name, first_seen, place_of}
+use Rattle.template_core.specs.Constraints.{arity}
+use Rattle.template_core.specs.declared.constraint.Constraint.{Constraint}
+use Rattle.template_core.specs.declared.kind.Kind.{Kind}
+use Rattle.template_set.specs.Names.{all_kinds, name_of}
+
+-- the names of a model, each once, and its constraints over their places
+pub record Known : Type 0 where
+  pub names : List (List ℕ)
+  pub constraints : List Constraint
+
+-- the first refusal decides
+infixl 10 ◌>>=◌
+abbrev pub ◌>>=◌ : {A B : Type 0} → Result A Refusal → (A → Result B Refusal) → Result B Refusal
+(Ok x) >>= f = f x
+(Err r) >>= f = Err r
+
+-- ---- lists in a value
+
+abbrev pub values_of : Items → List Data
+values_of no_items = []
+values_of (item d ds) = d ∷ values_of ds
+
+abbrev pub list_in : Data → Option (List Data)
+list_in value = option_map values_of (as_array value)
+
+-- what is read of each element, where something is read of all
+abbrev pub each : {A B : Type 0} → (A → Option B) → List A → Option (List B)
+each f [] = Some []
+each f (x ∷ xs) = option_and_then (λ y. option_map (λ ys. y ∷ ys) (each f xs)) (f x)
+
+abbrev pub texts_in : Data → Option (List (List ℕ))
+texts_in value = option_and_then (each as_str) (list_in value)
+
+-- ---- the value as a whole
+
+-- a version is 1, or no whole number
+abbrev pub is_version : Data → Bool
+is_version value = unwrap_or (option_map (λ n. is_float n || unwrap_or (option_map (λ whole. whole == 1) (as_u64 n)) false) (as_number value)) true
+
+-- the constraints and the tasks, where the value has the shape of a model: both are lists, one of texts, which may be left out as the version may
+pub record Shape : Type 0 where
+  pub constraints : List Data
+  pub tasks : List (List ℕ)
+
+abbrev pub shape_of : Data → Option Shape
+shape_of value =
+    option_and_then (λ constraints. option_and_then (λ tasks.
+    if unwrap_or (option_map is_version (get (codes "version") value)) true then Some (record { constraints = constraints; tasks = tasks }) else None)
+    (unwrap_or (option_map texts_in (get (codes "tasks") value)) (Some [])))
+    (option_and_then list_in (get (codes "constraints") value))
+
+-- names within the limit on activities
+abbrev pub within : List (List ℕ) → Result (List (List ℕ)) Refusal
+within names = if nat_le (length names) standard.activities then Ok names else Err (Activities standard.activities)
+
+-- ---- an item of the constraints
+
+-- the text of its template, and of each of its parameters the texts
+pub record Item : Type 0 where
+  pub template : List ℕ
+  pub parameters : List (List (List ℕ))
+
+abbrev pub item_of : Data → Option Item
+item_of value =
+    option_and_then (λ template. option_map (λ parameters. record { template = template; parameters = parameters })
+    (option_and_then (λ list. option_and_then (each texts_in) (list_in list)) (get (codes "parameters") value)))
+    (option_and_then as_str (get (codes "template") value))
+
+abbrev pub kind_named : List ℕ → Option Kind
+kind_named text = find (λ kind. bytes_eq text (name_of kind)) all_kinds
+
+abbrev pub only : List (List ℕ) → Option (List ℕ)
+only [] = None
+only (text ∷ []) = Some text
+only (text ∷ next ∷ texts) = None
+
+-- the names that are put in: of each parameter its only text, as many as the template has activities
+abbrev pub activities_in : Kind → List (List (List ℕ)) → Option (List (List ℕ))
+activities_in kind parameters =
+    option_and_then (λ names. if length names == arity kind then Some names else None) (each only parameters)
+
+abbrev pub is_twice : List (List ℕ) → Bool
+is_twice [] = false
+is_twice (first ∷ []) = false
+is_twice (first ∷ second ∷ names) = bytes_eq first second
+
+-- the constraint of a template and the names that are put in, over the places of the names of a model
+abbrev pub put_in : Kind → List (List ℕ) → List (List ℕ) → Constraint
+put_in kind names [] = record { kind = kind; first = 0; second = 0 }
+put_in kind names (first ∷ []) = record { kind = kind; first = place_of names first; second = place_of names first }
+put_in kind names (first ∷ second ∷ more) = record { kind = kind; first = place_of names first; second = place_of names second }
+
+-- the item with this number, from 1, behind some names: its constraint, and the names with its own
+abbrev pub item_read : ℕ → List (List ℕ) → Data → Result (Constraint × List (List ℕ)) Refusal
+item_read number names value = do
+  texts ← ok_or (item_of value) (ModelShape number)
+  kind ← ok_or (kind_named texts.template) (UnknownTemplate number)
+  activities ← ok_or (activities_in kind texts.parameters) (Parameters number)
+  different ← (if is_twice activities then Err (SameParameter number) else Ok activities)
+  more ← within (fold with_name names different)
+  Ok (put_in kind more different, more)
+
+-- the items from that number on
+abbrev pub items_read : ℕ → List (List ℕ) → List Data → Result Known Refusal
+items_read number names [] = Ok (record { names = names; constraints = [] })
+items_read number names (value ∷ values) = do
+  first ← item_read number names value
+  rest ← items_read (number + 1) first.1 values
+  Ok (record { names = rest.names; constraints = first.0 ∷ rest.constraints })
+
+-- ---- the model of a value and of bytes
+
+abbrev pub model_of : Data → Result Known Refusal
+model_of value = do
+  shape ← ok_or (shape_of value) (ModelShape 0)
+  constraints ← (if nat_le (length shape.constraints) standard.candidates then Ok shape.constraints else Err (Candidates (length shape.constraints)))
+  names ← within (first_seen shape.tasks)
+  items_read 1 names constraints
+
+-- the value that the bytes are, where they are JSON
+abbrev pub json_of : List ℕ → Result Data Refusal
+json_of bytes = ok_or (if is_utf8 bytes then read bytes else None) NotJson
+
+abbrev pub model_of_bytes : List ℕ → Result Known Refusal
+model_of_bytes bytes = json_of bytes >>= model_of

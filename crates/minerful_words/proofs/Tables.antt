@@ -1,15 +1,11 @@
 -- The rows of a table that are left, one after the other.
-use Rattle.std.proofs.Common.{◌≡◌, ℕ, ◌+◌, ◌<◌, List, [], ◌∷◌, Option, Some, Ok, Result, cond, length, map, drop, get_or, refl, sym, ap, subst, ◌∙◌, add-one, drop-cons}
-use Rattle.std.specs.Prelude.{find}
-use Rattle.std.specs.Str.{bytes_eq}
+use Rattle.std.proofs.Common.{◌≡◌, ℕ, ◌+◌, ◌<◌, List, ◌∷◌, Option, Ok, length, map, drop, get_or, refl, sym, ap, subst, ◌∙◌, add-one, drop-cons}
 use Rattle.clap.specs.Words.{Row, Text}
 use Rattle.decl_base.specs.declared.refusal.Refusal.{Refusal}
-use Rattle.minerful_words.specs.Rows.{command_row, option_row}
+use Rattle.minerful_words.specs.Rows.{option_row}
 use Rattle.minerful_words.specs.Settings.{◌>>=◌, Refuses, text_for, with_text, with_texts}
-use Rattle.minerful_words.specs.Table.{CommandRow}
 use Rattle.minerful_words.specs.declared.settings.Command.{Command}
 use Rattle.minerful_words.specs.declared.settings.Settings.{Settings}
-use Rattle.minerful_words.specs.declared.table.CommandForm.{CommandForm}
 use Rattle.minerful_words.specs.declared.table.CommandOption.{CommandOption}
 use Rattle.minerful_words.proofs.First.{refuses_first}
 

@@ -1,4 +1,4 @@
-use Rattle.std.proofs.Common.{◌≡◌, ℕ, List, map, drop}
+use Rattle.std.proofs.Common.{◌≡◌, List, map, drop}
 use Rattle.clap.specs.Words.{Row, found_of, rows_of}
 use Rattle.minerful_words.specs.Rows.{option_row}
 use Rattle.minerful_words.specs.Settings.{settings_in, with_texts}

@@ -1,4 +1,4 @@
-use Rattle.std.proofs.Common.{sym, ap, ◌∙◌, option_map}
+use Rattle.std.proofs.Common.{sym}
 use Rattle.minerful_words.specs.Rows.{command_row}
 use Rattle.minerful_words.proofs.Simple.{named_is_simple}
 use Rattle.minerful_words.proofs.settings.Settings.read.Goals as goal

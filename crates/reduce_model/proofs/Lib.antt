@@ -1,3 +1,15 @@
 pub mod Members
 pub mod Joins
 pub mod Sifts
+pub mod Marks
+pub mod Determined
+pub mod Lists
+pub mod Grows
+pub mod Writes
+pub mod Prunes
+pub mod FirstPasses
+pub mod SecondPasses
+pub mod Witnessing
+pub mod Meaning
+pub mod Reduces
+pub mod Consequences

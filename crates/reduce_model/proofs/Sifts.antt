@@ -2,8 +2,6 @@
 use Rattle.std.proofs.Common.{◌≡◌, ◌↔◌, ℕ, zero, suc, ◌+◌, ◌<◌, ◌≤◌, inl, inr, List, [], ◌∷◌, ◌++◌, length, take, refl, sym, ap, ◌∙◌, arith, append_assoc}
 use Rattle.std.proofs.lemmas.Bool.{cases_lt}
 use Rattle.std.proofs.lemmas.List.{append-nil, length_push}
-use Rattle.decl_base.specs.declared.refusal.Refusal.{Refusal}
-use Rattle.decl_base.specs.declared.refusal.Refusal.TheVariants.{States, Memory}
 use Rattle.dfa_core.specs.Automaton.{Accepts, IsEverything, state_count}
 use Rattle.dfa_core.specs.Languages.{HasNoMember, IsLeastMember}
 use Rattle.dfa_core.specs.Shortlex.{IsBefore}
@@ -11,20 +9,20 @@ use Rattle.dfa_core.specs.Traces.{IsTrace}
 use Rattle.dfa_minimise.specs.Wide.{IsWide}
 use Rattle.template_core.specs.declared.constraint.Constraint.{Constraint}
 use Rattle.reduce_model.proofs.Members.{least-same, over-wide, wide-over}
-use Rattle.reduce_model.specs.Joining.{AcceptsKept, IsTooWide, Joins, RefusesJoin}
+use Rattle.reduce_model.specs.Joining.{AcceptsKept, Extends, IsTooWide, JoinsKept}
 use Rattle.reduce_model.specs.Keeping.{KeepsAll, KeepsOne, IsKeepable}
-use Rattle.reduce_model.specs.Sifting.{IsFirstWide, IsKeptAfter, IsSift, IsSifted, RefusesSift, Sifting, kept_of}
+use Rattle.reduce_model.specs.Sifting.{IsFirstWide, IsKeptAfter, IsSift, IsSifted, Sifting, kept_of}
 use Rattle.reduce_model.specs.declared.decision.Decision.{Decision}
 use Rattle.reduce_model.specs.declared.decision.Decision.TheVariants.{Kept, Conflict}
 use Rattle.reduce_model.specs.declared.kept.KeptList.{KeptList}
 
 -- ---- a list with one more constraint
 
-push-keeps : (xs : List Constraint) (c : Constraint) (w : List ℕ) → KeepsAll xs w → KeepsOne c w → KeepsAll (xs ++ c ∷ []) w
+pub push-keeps : (xs : List Constraint) (c : Constraint) (w : List ℕ) → KeepsAll xs w → KeepsOne c w → KeepsAll (xs ++ c ∷ []) w
 push-keeps [] c w all one = (one, tt)
 push-keeps (x ∷ xs) c w all one = (all.0, push-keeps xs c w all.1 one)
 
-keeps-push : (xs : List Constraint) (c : Constraint) (w : List ℕ) → KeepsAll (xs ++ c ∷ []) w → KeepsAll xs w × KeepsOne c w
+pub keeps-push : (xs : List Constraint) (c : Constraint) (w : List ℕ) → KeepsAll (xs ++ c ∷ []) w → KeepsAll xs w × KeepsOne c w
 keeps-push [] c w all = (tt, all.0)
 keeps-push (x ∷ xs) c w all = let rest = keeps-push xs c w all.1 in ((all.0, rest.0), rest.1)
 
@@ -94,13 +92,13 @@ same-more n s kept carried c h w tw = (
   λ all. let parts = keeps-push kept c w all in ((h.same w tw).1 parts.0, parts.1),
 )
 
-carried-more : (n s : ℕ) (kept : List Constraint) (old new : KeptList) (c : Constraint) → IsCarried n s kept old → Joins s old c new → IsCarried n s (kept ++ c ∷ []) new
+carried-more : (n s : ℕ) (kept : List Constraint) (old new : KeptList) (c : Constraint) → IsCarried n s kept old → JoinsKept s old c new → IsCarried n s (kept ++ c ∷ []) new
 carried-more n s kept old new c h joins = record {
-  over = joins.narrowed.over ∙ h.over;
+  over = joins.extends.over ∙ h.over;
   same = λ w tw.
       let more = same-more n s kept old c h w tw in
-      let narrowed = joins.narrowed.same w (rw h.over tw) in (λ is. more.0 (narrowed.0 is), λ all. narrowed.1 (more.1 all));
-  few = joins.few;
+      let narrowed = joins.extends.same w (rw h.over tw) in (λ is. more.0 (narrowed.0 is), λ all. narrowed.1 (more.1 all));
+  few = joins.extends.few;
   carried_length = joins.new_length ∙ (ap (λ (k : ℕ). k + 1) h.carried_length ∙ sym (length_push kept c));
   example = least-same old.dfa.symbols n (AcceptsKept old.dfa c) (KeepsAll (kept ++ c ∷ [])) new.example h.over (same-more n s kept old c h) joins.example;
 }
@@ -118,7 +116,7 @@ no_before_nil [] (inr p) = p.1
 no_before_nil (x ∷ w) (inr p) = p.1
 
 -- the empty list tells nothing apart
-empty-narrow : (n s : ℕ) → 1 ≤ s → IsWide n (KeepsAll []) s → ⊥
+pub empty-narrow : (n s : ℕ) → 1 ≤ s → IsWide n (KeepsAll []) s → ⊥
 empty-narrow n s some wide = let t = wide.apart 0 1 (omega arith) some in t.differs (λ is. tt, λ is. tt)
 
 pub so_far-none : (n s : ℕ) (list : List Constraint) (carried : KeptList) (decisions : List Decision) → 1 ≤ s → IsEverything n carried.dfa → carried.length ≡ 0 → carried.example ≡ [] → decisions ≡ []
@@ -151,7 +149,7 @@ after-known n list count at kept ds e after sifted =
     ap (kept_of (take at list)) (sifted_unique n [] (take at list) ds after.decisions sifted theirs) ∙ is
 
 pub so_far-kept : (n s : ℕ) (list : List Constraint) (at : ℕ) (old new : KeptList) (ds : List Decision) (c : Constraint) → take (at + 1) list ≡ take at list ++ c ∷ []
-    → IsSiftedSoFar n s list at old ds → Joins s old c new → IsSiftedSoFar n s list (at + 1) new (ds ++ Kept ∷ [])
+    → IsSiftedSoFar n s list at old ds → JoinsKept s old c new → IsSiftedSoFar n s list (at + 1) new (ds ++ Kept ∷ [])
 so_far-kept n s list at old new ds c more h joins =
     let front = take at list in
     let kept = kept_of front ds in
@@ -171,7 +169,7 @@ so_far-kept n s list at old new ds c more h joins =
         | inl new_ ↦
             let same : count ≡ at + 1 = omega arith in
             let is : kept ++ c ∷ [] ≡ other = sym known ∙ after-known n list count (at + 1) other (ds ++ Kept ∷ []) same after sifted in
-            joins.narrow (wide-over old.dfa.symbols n s (AcceptsKept old.dfa c) (KeepsAll (kept ++ c ∷ [])) h.carried_of.over (same-more n s kept old c h.carried_of) (rw is wide))
+            joins.extends.narrow (wide-over old.dfa.symbols n s (AcceptsKept old.dfa c) (KeepsAll (kept ++ c ∷ [])) h.carried_of.over (same-more n s kept old c h.carried_of) (rw is wide))
         | inr old_ ↦ h.narrow count other old_ after wide
       ];
     }
@@ -201,9 +199,9 @@ so_far-conflict n s list at old ds c more lt h none =
       ];
     }
 
-pub so_far-refused : (n s : ℕ) (list : List Constraint) (at : ℕ) (old : KeptList) (ds : List Decision) (c : Constraint) (built : ℕ) → take (at + 1) list ≡ take at list ++ c ∷ []
-    → at < length list → IsSiftedSoFar n s list at old ds → IsTooWide s old c built → IsFirstWide n s list built
-so_far-refused n s list at old ds c built more lt h too =
+pub so_far-refused : (n s : ℕ) (list : List Constraint) (at : ℕ) (old : KeptList) (ds : List Decision) (c : Constraint) → take (at + 1) list ≡ take at list ++ c ∷ []
+    → at < length list → IsSiftedSoFar n s list at old ds → IsTooWide s old.dfa c → IsFirstWide n s list (old.length + 1)
+so_far-refused n s list at old ds c more lt h too =
     let front = take at list in
     let kept = kept_of front ds in
     let least = least-same old.dfa.symbols n (AcceptsKept old.dfa c) (KeepsAll (kept ++ c ∷ [])) too.by h.carried_of.over (same-more n s kept old c h.carried_of) too.example in
@@ -222,7 +220,7 @@ so_far-refused n s list at old ds c built more lt h too =
         is = rw more (kept_of-push n [] front ds c h.sifted);
       };
       wide = over-wide old.dfa.symbols n s (AcceptsKept old.dfa c) (KeepsAll (kept ++ c ∷ [])) h.carried_of.over (same-more n s kept old c h.carried_of) too.wide;
-      built_length = length_push kept c ∙ (ap (λ (k : ℕ). k + 1) (sym h.carried_of.carried_length) ∙ sym too.built_length);
+      built_length = length_push kept c ∙ ap (λ (k : ℕ). k + 1) (sym h.carried_of.carried_length);
       first = λ earlier before less after wide. h.narrow earlier before (omega arith) after wide;
     }
 
@@ -234,19 +232,13 @@ so_far-all n s list at carried sifting whole past same h = record {
   narrow = λ count kept after wide. let within = after.within in h.narrow count kept (omega (arith, within, past)) after wide;
 }
 
-pub refused : (n s : ℕ) (list : List Constraint) (at : ℕ) (old : KeptList) (ds : List Decision) (c : Constraint) (refusal : Refusal) → take (at + 1) list ≡ take at list ++ c ∷ []
-    → at < length list → IsSiftedSoFar n s list at old ds → RefusesJoin s old c refusal → RefusesSift n s list refusal
-refused n s list at old ds c (States phase built) more lt h is = (is.0, so_far-refused n s list at old ds c built more lt h is.1)
-refused n s list at old ds c Memory more lt h is = tt
-refused n s list at old ds c refusal more lt h is = absurd is
-
 length-kept_of : (list : List Constraint) (ds : List Decision) → length (kept_of list ds) ≤ length list
 length-kept_of [] ds = omega arith
 length-kept_of (c ∷ list) [] = omega arith
 length-kept_of (c ∷ list) (Kept ∷ ds) = let ih = length-kept_of list ds in omega (arith, ih)
 length-kept_of (c ∷ list) (d ∷ ds) = let ih = length-kept_of list ds in omega (arith, ih)
 
-length-take_le : (count : ℕ) (list : List Constraint) → length (take count list) ≤ length list
+pub length-take_le : (count : ℕ) (list : List Constraint) → length (take count list) ≤ length list
 length-take_le zero list = omega arith
 length-take_le (suc count) [] = omega arith
 length-take_le (suc count) (c ∷ list) = let ih = length-take_le count list in omega (arith, ih)

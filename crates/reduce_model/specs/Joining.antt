@@ -1,19 +1,24 @@
--- A kept list as it is carried, and a candidate that may join it.
-use Rattle.std.specs.Prelude.{◌≡◌, ℕ, ◌+◌, ◌≤◌, List, ◌↔◌, ⊤}
-use Rattle.decl_base.specs.declared.refusal.Refusal.{Refusal}
-use Rattle.decl_base.specs.declared.refusal.Refusal.TheVariants.{States, Memory}
+-- A list of constraints as it is carried, and one more that may join it.
+use Rattle.std.specs.Prelude.{◌≡◌, ℕ, ◌+◌, ◌≤◌, List, ◌↔◌}
 use Rattle.dfa_core.specs.Automaton.{Automaton, Accepts, IsBreadthFirst, state_count}
-use Rattle.dfa_core.specs.Languages.{IsLeastMember}
+use Rattle.dfa_core.specs.Languages.{HasNoMember, IsLeastMember}
 use Rattle.dfa_core.specs.Traces.{IsTrace}
 use Rattle.dfa_minimise.specs.Least.{IsLeast}
 use Rattle.dfa_minimise.specs.Wide.{IsWide}
 use Rattle.template_core.specs.declared.constraint.Constraint.{Constraint}
 use Rattle.reduce_model.specs.Keeping.{KeepsOne}
+use Rattle.reduce_model.specs.declared.kept.Joined.{Joined}
+use Rattle.reduce_model.specs.declared.kept.Joined.TheVariants.{Joins, Wide, Conflicts}
 use Rattle.reduce_model.specs.declared.kept.KeptList.{KeptList}
+use Rattle.reduce_model.specs.declared.kept.Tried.{Tried}
+use Rattle.reduce_model.specs.declared.kept.Tried.TheVariants.{Implied, Left, TooWide}
 
--- what an automaton accepts that keeps the constraint too
+-- what an automaton accepts that keeps the constraint too, and what of it breaks the constraint
 abbrev pub AcceptsKept : Automaton → Constraint → List ℕ → Type 0
 AcceptsKept a c w = Accepts a w × KeepsOne c w
+
+abbrev pub AcceptsBroken : Automaton → Constraint → List ℕ → Type 0
+AcceptsBroken a c w = Accepts a w × (KeepsOne c w → ⊥)
 
 -- the least automaton of that
 pub record IsNarrowed (a : Automaton) (c : Constraint) (narrowed : Automaton) : Type 0 where
@@ -22,22 +27,33 @@ pub record IsNarrowed (a : Automaton) (c : Constraint) (narrowed : Automaton) : 
   pub least : IsLeast narrowed
   pub order : IsBreadthFirst narrowed
 
+-- the automaton with the constraint is narrow for s
+pub record Extends (s : ℕ) (a : Automaton) (c : Constraint) (extended : Automaton) : Type 0 where
+  pub over : extended.symbols ≡ a.symbols
+  pub same : (w : List ℕ) → IsTrace a.symbols w → Accepts extended w ↔ AcceptsKept a c w
+  pub narrow : IsWide a.symbols (AcceptsKept a c) s → ⊥
+  pub few : state_count extended ≤ s
+
 -- a candidate has joined, and the list isn't wide for s
-pub record Joins (s : ℕ) (old : KeptList) (c : Constraint) (new : KeptList) : Type 0 where
-  pub narrowed : IsNarrowed old.dfa c new.dfa
+pub record JoinsKept (s : ℕ) (old : KeptList) (c : Constraint) (new : KeptList) : Type 0 where
+  pub extends : Extends s old.dfa c new.dfa
   pub example : IsLeastMember old.dfa.symbols (AcceptsKept old.dfa c) new.example
   pub new_length : new.length ≡ old.length + 1
-  pub narrow : IsWide old.dfa.symbols (AcceptsKept old.dfa c) s → ⊥
-  pub few : state_count new.dfa ≤ s
 
--- the list with the candidate is wide for s
-pub record IsTooWide (s : ℕ) (old : KeptList) (c : Constraint) (built : ℕ) : Type 0 where
+-- some trace keeps the list with the candidate, and the list with it is wide for s
+pub record IsTooWide (s : ℕ) (a : Automaton) (c : Constraint) : Type 0 where
   pub by : List ℕ
-  pub example : IsLeastMember old.dfa.symbols (AcceptsKept old.dfa c) by
-  pub built_length : built ≡ old.length + 1
-  pub wide : IsWide old.dfa.symbols (AcceptsKept old.dfa c) s
+  pub example : IsLeastMember a.symbols (AcceptsKept a c) by
+  pub wide : IsWide a.symbols (AcceptsKept a c) s
 
-abbrev pub RefusesJoin : ℕ → KeptList → Constraint → Refusal → Type 0
-RefusesJoin s old c (States phase built) = (phase ≡ 1) × IsTooWide s old c built
-RefusesJoin s old c Memory = ⊤
-RefusesJoin s old c refusal = ⊥
+-- what comes of a candidate at the end of the list
+abbrev pub IsJoined : ℕ → KeptList → Constraint → Joined → Type 0
+IsJoined s old c (Joins new) = JoinsKept s old c new
+IsJoined s old c Wide = IsTooWide s old.dfa c
+IsJoined s old c Conflicts = HasNoMember old.dfa.symbols (AcceptsKept old.dfa c)
+
+-- whether the list implies the candidate, and what comes of the list with it where not
+abbrev pub IsTried : ℕ → Automaton → Constraint → Tried → Type 0
+IsTried s a c Implied = HasNoMember a.symbols (AcceptsBroken a c)
+IsTried s a c (Left extended) = Extends s a c extended × ((w : List ℕ) × IsTrace a.symbols w × AcceptsBroken a c w)
+IsTried s a c TooWide = IsWide a.symbols (AcceptsKept a c) s × ((w : List ℕ) × IsTrace a.symbols w × AcceptsBroken a c w)

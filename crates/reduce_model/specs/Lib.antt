@@ -1,3 +1,7 @@
 pub mod Keeping
 pub mod Sifting
 pub mod Joining
+pub mod Deciding
+pub mod Building
+pub mod Reduction
+pub mod Passes

@@ -2,7 +2,7 @@ ghost use Rattle.std.specs.Prelude.{◌≤◌, length, All, IfOk, IfErr};
 ghost use Rattle.template_core.specs.Constraints.{IsWellMadeFor};
 ghost use Rattle.reduce_model.specs.Sifting.{IsSift, RefusesSift};
 
-use crate::kept::KeptList;
+use crate::kept::{Joined, KeptList};
 use crate::{Decision, Sifted};
 use decl_base::{Refusal, Trace};
 use dfa_core::Dfa;
@@ -32,11 +32,17 @@ pub fn sift(
     let mut decisions = Vec::new(alloc);
     for candidate in list {
         match kept.joined(alloc, candidate, states)? {
-            Some(joined) => {
+            Joined::Joins(joined) => {
                 kept = joined;
                 decisions.push(Decision::Kept)?;
             }
-            None => decisions.push(Decision::Conflict)?,
+            Joined::Wide => {
+                return Err(Refusal::States {
+                    phase: 1,
+                    built: kept.length + 1,
+                });
+            }
+            Joined::Conflicts => decisions.push(Decision::Conflict)?,
         }
     }
     let KeptList {

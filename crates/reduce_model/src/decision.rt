@@ -18,6 +18,24 @@ pub enum Decision {
     SecondPass,
 }
 
+impl Decision {
+    ghost use Rattle.reduce_model.specs.Deciding.{is_consistent as consistent, is_kept as kept};
+
+    /// Whether it is in the conflict-free model.
+    pub(crate) fn is_consistent(&self) -> bool
+        ensures { result ≡ consistent self.now }
+    {
+        !matches!(self, Decision::Conflict)
+    }
+
+    /// Whether it still stands.
+    pub(crate) fn is_kept(&self) -> bool
+        ensures { result ≡ kept self.now }
+    {
+        matches!(self, Decision::Kept)
+    }
+}
+
 /// A list of candidates gone through: a decision for each, and the least trace that keeps all that stay.
 #[derive(Debug, Drop)]
 pub struct Sifted {
@@ -39,6 +57,45 @@ impl Sifted {
         ensures { result.now ≡ self.now.decisions }
     {
         &self.decisions
+    }
+
+    /// The least trace in shortlex order that keeps all constraints that stay.
+    pub fn example(&self) -> &Trace
+        ensures { result.now ≡ self.now.example }
+    {
+        &self.example
+    }
+}
+
+/// A list of candidates reduced: a decision for each, a witness for each that stays, and the least trace that keeps all that stay.
+#[derive(Debug, Drop)]
+pub struct Reduced {
+    pub(crate) decisions: Vec<Decision>,
+    pub(crate) witnesses: Vec<Trace>,
+    pub(crate) example: Trace,
+}
+
+impl Model for Reduced {
+    ghost use Rattle.reduce_model.specs.Reduction.{Reduction};
+
+    ghost Value = { Reduction };
+
+    ghost view = { λ r. record { decisions = r.decisions.items; witnesses = r.witnesses.items; example = r.example } };
+}
+
+impl Reduced {
+    /// The decisions, in the order of the candidates.
+    pub fn decisions(&self) -> &[Decision]
+        ensures { result.now ≡ self.now.decisions }
+    {
+        &self.decisions
+    }
+
+    /// For each candidate that stays, in their order, the least trace in shortlex order that keeps all the others which stay and breaks it.
+    pub fn witnesses(&self) -> &[Trace]
+        ensures { result.now ≡ self.now.witnesses }
+    {
+        &self.witnesses
     }
 
     /// The least trace in shortlex order that keeps all constraints that stay.

@@ -1,8 +1,9 @@
 ghost use Rattle.std.specs.Prelude.{◌≡◌, ◌+◌, ◌<◌, ◌≤◌, ◌^◌, IfOk, IfErr, MatchOption};
 ghost use Rattle.dfa_core.specs.Automaton.{state_count};
-ghost use Rattle.dfa_core.specs.Languages.{HasNoMember};
+ghost use Rattle.dfa_core.specs.Languages.{HasNoMember, IsLeastMember};
+ghost use Rattle.dfa_minimise.specs.Wide.{IsWide};
 ghost use Rattle.template_core.specs.Constraints.{IsWellMade};
-ghost use Rattle.reduce_model.specs.Joining.{AcceptsKept, IsNarrowed, Joins, RefusesJoin};
+ghost use Rattle.reduce_model.specs.Joining.{AcceptsBroken, AcceptsKept, Extends, IsJoined, IsNarrowed, IsTried};
 
 use decl_base::{Refusal, Trace};
 use dfa_core::Dfa;
@@ -12,7 +13,7 @@ use std::alloc::Global;
 use template_core::Constraint;
 use template_set::table_of;
 
-/// A list of constraints, carried as the least automaton of the traces that keep it.
+/// A list of constraints, carried as an automaton of the traces that keep it.
 #[derive(Drop)]
 pub(crate) struct KeptList {
     pub dfa: Dfa,
@@ -21,37 +22,113 @@ pub(crate) struct KeptList {
     pub example: Trace,
 }
 
+/// What comes of a candidate at the end of a list.
+#[derive(Drop)]
+pub(crate) enum Joined {
+    /// The list with the candidate.
+    Joins(KeptList),
+    /// Some trace keeps the list and the candidate, and together they tell too many traces apart.
+    Wide,
+    /// No trace keeps the list and the candidate.
+    Conflicts,
+}
+
+/// What comes of a candidate that a list may imply.
+#[derive(Drop)]
+pub(crate) enum Tried {
+    /// The list implies it.
+    Implied,
+    /// It doesn't: the list with the candidate.
+    Left(Dfa),
+    /// It doesn't, and the list with the candidate tells too many traces apart.
+    TooWide,
+}
+
 impl KeptList {
-    /// The list with the candidate at its end, or None where no trace keeps both.
+    /// The list with the candidate at its end.
     pub fn joined(
         &self,
         alloc: Global,
         candidate: &Constraint,
         states: u64,
-    ) -> Result<Option<KeptList>, Refusal>
+    ) -> Result<Joined, Refusal>
         requires made { IsWellMade candidate.now.kind candidate.now.first candidate.now.second }
         requires few { state_count self.now.dfa ≤ 65536 }
         requires room { self.now.length + 1 < 2 ^ 32 }
-        ensures ok { IfOk result (λ joined. MatchOption joined (HasNoMember self.now.dfa.symbols (AcceptsKept self.now.dfa candidate.now)) (Joins states self.now candidate.now)) }
-        ensures err { IfErr result (RefusesJoin states self.now candidate.now) }
+        ensures ok { IfOk result (IsJoined states self.now candidate.now) }
+        ensures err { IfErr result (λ e. e ≡ Refusal.Memory) }
     {
         let dfa = narrowed(alloc, &self.dfa, candidate)?;
         let Some(example) = first_trace(alloc, &dfa, &Want::Accepted)? else {
-            return Ok(None);
+            return Ok(Joined::Conflicts);
         };
-        let length = self.length + 1;
         if is_wide(&dfa, states) {
-            return Err(Refusal::States {
-                phase: 1,
-                built: length,
-            });
+            return Ok(Joined::Wide);
         }
-        Ok(Some(KeptList {
+        Ok(Joined::Joins(KeptList {
             dfa,
-            length,
+            length: self.length + 1,
             example,
         }))
     }
+}
+
+/// Whether a list implies a candidate, and the list with the candidate where not.
+pub(crate) fn try_candidate(
+    alloc: Global,
+    dfa: &Dfa,
+    candidate: &Constraint,
+    states: u64,
+) -> Result<Tried, Refusal>
+    requires made { IsWellMade candidate.now.kind candidate.now.first candidate.now.second }
+    requires few { state_count dfa.now ≤ 65536 }
+    ensures ok { IfOk result (IsTried states dfa.now candidate.now) }
+    ensures err { IfErr result (λ e. e ≡ Refusal.Memory) }
+{
+    if first_broken(alloc, dfa, candidate)?.is_none() {
+        return Ok(Tried::Implied);
+    }
+    match extended(alloc, dfa, candidate, states)? {
+        Some(dfa) => Ok(Tried::Left(dfa)),
+        None => Ok(Tried::TooWide),
+    }
+}
+
+/// The least trace that an automaton accepts and that breaks a constraint.
+pub(crate) fn first_broken(
+    alloc: Global,
+    dfa: &Dfa,
+    constraint: &Constraint,
+) -> Result<Option<Trace>, Refusal>
+    requires made { IsWellMade constraint.now.kind constraint.now.first constraint.now.second }
+    requires few { state_count dfa.now ≤ 65536 }
+    ensures ok { IfOk result (λ found. MatchOption found (HasNoMember dfa.now.symbols (AcceptsBroken dfa.now constraint.now)) (IsLeastMember dfa.now.symbols (AcceptsBroken dfa.now constraint.now))) }
+    ensures err { IfErr result (λ e. e ≡ Refusal.Memory) }
+{
+    let want = Want::Beside {
+        table: table_of(constraint.kind),
+        constraint: *constraint,
+    };
+    first_trace(alloc, dfa, &want)
+}
+
+/// The automaton of the traces that an automaton accepts and that keep a constraint, or None where it tells more traces apart than `states`.
+pub(crate) fn extended(
+    alloc: Global,
+    dfa: &Dfa,
+    constraint: &Constraint,
+    states: u64,
+) -> Result<Option<Dfa>, Refusal>
+    requires made { IsWellMade constraint.now.kind constraint.now.first constraint.now.second }
+    requires few { state_count dfa.now ≤ 65536 }
+    ensures ok { IfOk result (λ extended. MatchOption extended (IsWide dfa.now.symbols (AcceptsKept dfa.now constraint.now) states) (Extends states dfa.now constraint.now)) }
+    ensures err { IfErr result (λ e. e ≡ Refusal.Memory) }
+{
+    let extended = narrowed(alloc, dfa, constraint)?;
+    if is_wide(&extended, states) {
+        return Ok(None);
+    }
+    Ok(Some(extended))
 }
 
 /// The least automaton of the traces that an automaton accepts and that keep a constraint.

@@ -3,10 +3,23 @@
 
 mod conflicts;
 mod decision;
+mod first_pass;
+mod grown;
 mod kept;
+mod laws;
+mod others;
+mod pruning;
+mod reduction;
+mod second_pass;
+mod witnesses;
 
 pub use conflicts::sift;
-pub use decision::{Decision, Sifted};
+pub use decision::{Decision, Reduced, Sifted};
+pub use laws::{
+    left_out_conflicts_or_is_implied, model_is_keepable, model_keeps_the_traces,
+    reduction_is_determined, witnesses_break_one_each,
+};
+pub use reduction::reduce;
 
 #[cfg(test)]
 mod tests;

@@ -1,0 +1,282 @@
+-- The second pass that goes on by one candidate, from the last to the first.
+use Rattle.std.proofs.Common.{◌≡◌, ◌≢◌, ◌↔◌, ◌⊎◌, ℕ, zero, suc, ◌+◌, ◌-◌, ◌<◌, ◌≤◌, inl, inr, List, [], ◌∷◌, ◌++◌, Bool, true, false, IsTrue, if◌then◌else◌, length, map, take, drop, get_or, set, refl, sym, ap, subst, ◌∙◌, arith, add-one, append_assoc, drop-cons, length-append, length-drop, get_or-set_same, get_or-set_other}
+use Rattle.std.specs.List.{All, AllByRecursion}
+use Rattle.std.proofs.lemmas.Bool.{cases_lt, cases_eq}
+use Rattle.std.proofs.lemmas.List.{drop-map, drop-set-lt, drop_all, get_or-map, length-map, length-set, length-take, length-take-le, map-set, take-append-drop, take-map}
+use Rattle.std.proofs.lemmas.List.Elements.{All-append, All-cons, All-drop, All-head, All-nil, All-tail, All-take}
+use Rattle.dfa_core.specs.Languages.{HasNoMember, IsLeastMember}
+use Rattle.dfa_core.specs.Traces.{IsTrace}
+use Rattle.template_core.specs.declared.constraint.Constraint.{Constraint}
+use Rattle.reduce_model.proofs.Determined.{Has, ImpliesWith, backward_second_pass, kept_same_from}
+use Rattle.reduce_model.proofs.FirstPasses.{before-has, before-lacks, implies-none, is-kept, left_before, length-marked, none-implies}
+use Rattle.reduce_model.proofs.Lists.{all-append, phase-first, phase-narrow, tests-split}
+use Rattle.reduce_model.proofs.Marks.{IsBackward, anything}
+use Rattle.reduce_model.proofs.Writes.{fixed-at, map-set_same, take-ext, view_same}
+use Rattle.reduce_model.specs.Building.{AreNarrow, IsFirstOfWide, in_phase, tests}
+use Rattle.reduce_model.specs.Deciding.{after, before, is_kept, is_left, marked, those}
+use Rattle.reduce_model.specs.Passes.{IsFirstPrefix, IsNarrowList, IsSecondPassed, before_second_pass}
+use Rattle.reduce_model.specs.Reduction.{Breaks, Implies, TellsSecondPass}
+use Rattle.reduce_model.specs.declared.decision.Decision.{Decision}
+use Rattle.reduce_model.specs.declared.decision.Decision.TheVariants.{Kept, Conflict, Weaker, FirstPass, SecondPass}
+
+-- ---- the tests
+
+-- they depend on the marks alone
+tests-same : (before list : List Constraint) (ds es : List Decision) → map is_left ds ≡ map is_left es → map is_kept ds ≡ map is_kept es → tests before list ds ≡ tests before list es
+tests-same before [] ds es l k = refl
+tests-same before (c ∷ list) [] [] l k = refl
+tests-same before (c ∷ list) [] (e ∷ es) l k = cc
+tests-same before (c ∷ list) (d ∷ ds) [] l k = cc
+tests-same before (c ∷ list) (d ∷ ds) (e ∷ es) l k =
+    let here : is_left d ≡ is_left e = cc in
+    let left : map is_left ds ≡ map is_left es = cc in
+    let kept : map is_kept ds ≡ map is_kept es = cc in
+    let more = tests-same (before ++ c ∷ []) list ds es left kept in
+    let other = tests-same before list ds es left kept in
+    rw (here, kept, more, other) refl
+
+-- the tests from a place on
+tests-at : (before list : List Constraint) (ds : List Decision) (p : ℕ) → p < length list → p < length ds → is_left (get_or ds p Kept) ≡ true
+    → tests before (drop p list) (drop p ds)
+    ≡ tests (before ++ get_or list p anything ∷ []) (drop (suc p) list) (drop (suc p) ds) ++ (before ++ those is_kept (drop (suc p) list) (drop (suc p) ds)) ∷ []
+tests-at before list ds p ll ld has = rw (drop-cons list p anything ll, drop-cons ds p Kept ld, has) refl
+
+tests-past : (before list : List Constraint) (ds : List Decision) (p : ℕ) → p < length list → p < length ds → is_left (get_or ds p Kept) ≡ false
+    → tests before (drop p list) (drop p ds) ≡ tests before (drop (suc p) list) (drop (suc p) ds)
+tests-past before list ds p ll ld lacks = rw (drop-cons list p anything ll, drop-cons ds p Kept ld, lacks) refl
+
+-- ---- the pass
+
+-- the candidates from a place on are gone through, those before it not yet
+pub record IsPassingBack (n s : ℕ) (list : List Constraint) (old new : List Decision) (at : ℕ) : Type 0 where
+  pub as_many : length new ≡ length list
+  pub at_most : at ≤ length list
+  pub same : map before_second_pass new ≡ old
+  pub backward : IsBackward (ImpliesWith n list (map is_left new)) (Has is_left new) list (map is_kept new) at
+  pub fresh : (place : ℕ) → place < at → get_or new place Kept ≡ before_second_pass (get_or new place Kept)
+  pub narrow : AllByRecursion (IsNarrowList n s) (tests (left_before at list new) (drop at list) (drop at new))
+
+pub back-none : (n s : ℕ) (list : List Constraint) (old : List Decision) (at : ℕ) → at ≡ length list → length old ≡ length list → map before_second_pass old ≡ old → IsPassingBack n s list old old at
+back-none n s list old at e many passed = record {
+  as_many = many;
+  at_most = omega arith;
+  same = passed;
+  backward = λ place le lt q. absurd (omega arith);
+  fresh = λ place lt. fixed-at before_second_pass old place (omega arith) passed;
+  narrow = rw (drop_all at list (omega arith)) tt;
+}
+
+left-passes : (d : Decision) → is_left (before_second_pass d) ≡ is_left d
+left-passes Kept = refl
+left-passes Conflict = refl
+left-passes (Weaker by) = refl
+left-passes FirstPass = refl
+left-passes SecondPass = refl
+
+kept-is-left : (d : Decision) → d ≡ before_second_pass d → is_kept d ≡ is_left d
+kept-is-left Kept e = refl
+kept-is-left Conflict e = refl
+kept-is-left (Weaker by) e = refl
+kept-is-left FirstPass e = refl
+kept-is-left SecondPass e = cc
+
+whole-tests : (all_ split_ from_ from_before joined earlier : List (List Constraint)) (one : List Constraint) → split_ ≡ all_ → split_ ≡ from_ ++ earlier → from_ ≡ from_before → from_before ≡ joined ++ one ∷ []
+    → all_ ≡ joined ++ one ∷ earlier
+whole-tests all_ split_ from_ from_before joined earlier one a b c d =
+    sym a ∙ (b ∙ (ap (λ (l : List (List Constraint)). l ++ earlier) (c ∙ d) ∙ append_assoc joined (one ∷ []) earlier))
+
+module _ (n s : ℕ) (list : List Constraint) (old new : List Decision) (p : ℕ) (in_list : p < length list) (h : IsPassingBack n s list old new (suc p)) where
+  in_new : p < length new
+  in_new = let many = h.as_many in omega (arith, many, in_list)
+
+  mark-of : (test : Decision → Bool) → get_or (map test new) p false ≡ test (get_or new p Kept)
+  mark-of test = get_or-map test new p Kept false in_new
+
+  in_marks : (test : Decision → Bool) → p < length (map test new)
+  in_marks test = let many = h.as_many in let long = length-map new test in omega (arith, many, long, in_list)
+
+  -- one that doesn't stand is left alone
+  pub back-on : is_kept (get_or new p Kept) ≡ false → IsPassingBack n s list old new p
+  back-on lacks =
+      let lacks_left : is_left (get_or new p Kept) ≡ false = sym (kept-is-left (get_or new p Kept) (h.fresh p (omega arith))) ∙ lacks in
+      let same_list : left_before (suc p) list new ≡ left_before p list new = rw (← add-one) (before-lacks list (map is_left new) p (in_marks is_left) in_list (mark-of is_left ∙ lacks_left)) in
+      record {
+        as_many = h.as_many;
+        at_most = omega arith;
+        same = h.same;
+        backward = λ place le lt q. elim (cases_eq place p) [
+          | inl e ↦ let has : get_or (map is_left new) p false ≡ true = rw e at q in let no_ = mark-of is_left ∙ lacks_left in absurd (cc (has, no_))
+          | inr ne ↦ h.backward place (omega arith) lt q
+        ];
+        fresh = λ place lt. h.fresh place (omega arith);
+        narrow = rw (tests-past (left_before p list new) list new p in_list in_new lacks_left) (rw same_list at h.narrow);
+      }
+
+  module _ (kept : is_kept (get_or new p Kept) ≡ true) where
+    is : get_or new p Kept ≡ Kept
+    is = is-kept (get_or new p Kept) kept
+
+    has_left : is_left (get_or new p Kept) ≡ true
+    has_left = ap is_left is
+
+    longer : left_before (suc p) list new ≡ left_before p list new ++ get_or list p anything ∷ []
+    longer = rw (← add-one) (before-has list (map is_left new) p (in_marks is_left) in_list (mark-of is_left ∙ has_left))
+
+    front : take p (map is_kept new) ≡ take p (map is_left new)
+    front =
+        let lk = in_marks is_kept in
+        let ll = in_marks is_left in
+        take-ext (map is_kept new) (map is_left new) p (omega (arith, lk)) (omega (arith, ll)) (λ k lt.
+        let inside : k < length new = let w = in_new in omega (arith, w, lt) in
+        get_or-map is_kept new k Kept false inside ∙ (kept-is-left (get_or new k Kept) (h.fresh k (omega arith)) ∙ sym (get_or-map is_left new k Kept false inside)))
+
+    -- the others that still stand
+    abbrev pub rest : List Constraint
+    rest = left_before p list new ++ marked (drop (suc p) (map is_kept new)) (drop (suc p) list)
+
+    pub others : before is_kept p list new ++ after is_kept p list new ≡ left_before p list new ++ marked (drop (suc p) (map is_kept new)) (drop (suc p) list)
+    others = ap (λ (l : List Bool). marked l (take p list) ++ marked (drop (suc p) (map is_kept new)) (drop (suc p) list)) front
+
+    those_after : those is_kept (drop (suc p) list) (drop (suc p) new) ≡ marked (drop (suc p) (map is_kept new)) (drop (suc p) list)
+    those_after = ap (λ (l : List Bool). marked l (drop (suc p) list)) (sym (drop-map is_kept (suc p) new))
+
+    -- one that the others don't imply stays
+    pub back-found : (t : List ℕ) → IsLeastMember n (Breaks (before is_kept p list new ++ after is_kept p list new) (get_or list p anything)) t
+        → IsNarrowList n s (before is_kept p list new ++ after is_kept p list new) → IsPassingBack n s list old new p
+    back-found t least narrow =
+        let list_narrow : IsNarrowList n s (left_before p list new ++ those is_kept (drop (suc p) list) (drop (suc p) new)) = rw those_after (rw others at narrow) in
+        let old_narrow : AllByRecursion (IsNarrowList n s) (tests (left_before p list new ++ get_or list p anything ∷ []) (drop (suc p) list) (drop (suc p) new)) = rw longer at h.narrow in
+        record {
+          as_many = h.as_many;
+          at_most = omega arith;
+          same = h.same;
+          backward = λ place le lt q. elim (cases_eq place p) [
+            | inl e ↦
+                let has : get_or (map is_kept new) p false ≡ true = mark-of is_kept ∙ kept in
+                let breaks : Breaks (left_before p list new ++ marked (drop (suc p) (map is_kept new)) (drop (suc p) list)) (get_or list p anything) t = rw others at least.member in
+                rw e (λ lacks. absurd (cc (has, lacks)), λ implies. absurd (breaks.1 (implies t least.over breaks.0)))
+            | inr ne ↦ h.backward place (omega arith) lt q
+          ];
+          fresh = λ place lt. h.fresh place (omega arith);
+          narrow = rw (tests-at (left_before p list new) list new p in_list in_new has_left)
+              (all-append n s (tests (left_before p list new ++ get_or list p anything ∷ []) (drop (suc p) list) (drop (suc p) new)) ((left_before p list new ++ those is_kept (drop (suc p) list) (drop (suc p) new)) ∷ []) old_narrow (list_narrow, tt));
+        }
+
+    -- one that they imply is marked
+    marks_after : map is_kept (set new p SecondPass) ≡ set (map is_kept new) p false
+    marks_after = map-set is_kept new p SecondPass
+
+    left_after : map is_left (set new p SecondPass) ≡ map is_left new
+    left_after = map-set_same is_left new p SecondPass (sym has_left)
+
+    back_after : (place : ℕ) → p < place → drop place (map is_kept (set new p SecondPass)) ≡ drop place (map is_kept new)
+    back_after place lt = ap (drop place) marks_after ∙ drop-set-lt place (map is_kept new) p false lt
+
+    lacks_after : get_or (map is_kept (set new p SecondPass)) p false ≡ false
+    lacks_after = ap (λ (l : List Bool). get_or l p false) marks_after ∙ get_or-set_same (map is_kept new) p false false (in_marks is_kept)
+
+    pub back-missing : HasNoMember n (Breaks (before is_kept p list new ++ after is_kept p list new) (get_or list p anything))
+        → IsNarrowList n s (before is_kept p list new ++ after is_kept p list new) → IsPassingBack n s list old (set new p SecondPass) p
+    back-missing none narrow =
+        let long = length-set new p SecondPass in
+        let in_after : p < length (set new p SecondPass) = let w = in_new in omega (arith, long, w) in
+        let written : get_or (set new p SecondPass) p Kept ≡ SecondPass = get_or-set_same new p SecondPass Kept in_new in
+        let left_written : is_left (get_or (set new p SecondPass) p Kept) ≡ true = ap is_left written in
+        let tail : drop (suc p) (set new p SecondPass) ≡ drop (suc p) new = drop-set-lt (suc p) new p SecondPass (omega arith) in
+        let list_narrow : IsNarrowList n s (left_before p list new ++ those is_kept (drop (suc p) list) (drop (suc p) new)) = rw those_after (rw others at narrow) in
+        let old_narrow : AllByRecursion (IsNarrowList n s) (tests (left_before p list new ++ get_or list p anything ∷ []) (drop (suc p) list) (drop (suc p) new)) = rw longer at h.narrow in
+        let all_narrow = all-append n s (tests (left_before p list new ++ get_or list p anything ∷ []) (drop (suc p) list) (drop (suc p) new)) ((left_before p list new ++ those is_kept (drop (suc p) list) (drop (suc p) new)) ∷ []) old_narrow (list_narrow, tt) in
+        record {
+          as_many = long ∙ h.as_many;
+          at_most = omega arith;
+          same = map-set_same before_second_pass new p SecondPass (sym (ap before_second_pass is)) ∙ h.same;
+          backward = λ place le lt q. elim (cases_eq place p) [
+            | inl e ↦
+                let no_ : HasNoMember n (Breaks (left_before p list new ++ marked (drop (suc p) (map is_kept new)) (drop (suc p) list)) (get_or list p anything)) = rw others at none in
+                let implies = none-implies n (left_before p list new ++ marked (drop (suc p) (map is_kept new)) (drop (suc p) list)) (get_or list p anything) no_ in
+                rw (e, left_after, back_after (suc p) (omega arith)) (λ lacks. implies, λ i. lacks_after)
+            | inr ne ↦
+                let past : suc p ≤ place = omega arith in
+                let mark : get_or (map is_kept (set new p SecondPass)) place false ≡ get_or (map is_kept new) place false =
+                ap (λ (l : List Bool). get_or l place false) marks_after ∙ get_or-set_other (map is_kept new) p place false false ne in
+                let has : get_or (map is_left new) place false ≡ true = rw left_after at q in
+                rw (mark, left_after, back_after (suc place) (omega arith)) (h.backward place past lt has)
+          ];
+          fresh = λ place lt.
+              let ne : place ≢ p = omega arith in
+              let same_ : get_or (set new p SecondPass) place Kept ≡ get_or new place Kept = get_or-set_other new p place SecondPass Kept ne in
+              rw same_ (h.fresh place (omega arith));
+          narrow = rw (left_after, tests-at (left_before p list new) list (set new p SecondPass) p in_list in_after left_written, tail) all_narrow;
+        }
+
+    -- one whose test is wide ends the pass
+    pub back-refused : (size : ℕ) → IsFirstPrefix n s (before is_kept p list new ++ after is_kept p list new) size
+        → (es : List Decision) → length es ≡ length list → map is_left es ≡ map is_left old → TellsSecondPass n list es → IsFirstOfWide n s (in_phase 3 (tests [] list es)) 3 size
+    back-refused size first es many left told =
+        let left_new : map is_left new ≡ map is_left es = view_same before_second_pass is_left new old left-passes h.same ∙ sym left in
+        let gap_ : (k : ℕ) × (suc p + k ≡ length list) = (length list - suc p, omega arith) in
+        let kept_back = kept_same_from n list new es gap_.0 (suc p) gap_.1 h.as_many many left_new h.backward told in
+        let in_es : p < length es = omega (arith, many, in_list) in
+        let has_es : is_left (get_or es p Kept) ≡ true =
+        sym (get_or-map is_left es p Kept false in_es) ∙ (ap (λ (l : List Bool). get_or l p false) (sym left_new) ∙ (mark-of is_left ∙ has_left)) in
+        let left_tail : map is_left (drop (suc p) new) ≡ map is_left (drop (suc p) es) = sym (drop-map is_left (suc p) new) ∙ (ap (drop (suc p)) left_new ∙ drop-map is_left (suc p) es) in
+        let kept_tail : map is_kept (drop (suc p) new) ≡ map is_kept (drop (suc p) es) = sym (drop-map is_kept (suc p) new) ∙ (kept_back ∙ drop-map is_kept (suc p) es) in
+        let same_tests = tests-same (left_before p list new ++ get_or list p anything ∷ []) (drop (suc p) list) (drop (suc p) new) (drop (suc p) es) left_tail kept_tail in
+        let done : AllByRecursion (IsNarrowList n s) (tests (left_before p list new ++ get_or list p anything ∷ []) (drop (suc p) list) (drop (suc p) es)) = rw same_tests at (rw longer at h.narrow) in
+        let front_es : those is_left (take p list) (take p es) ≡ left_before p list new =
+        ap (λ (l : List Bool). marked l (take p list)) (sym (take-map is_left p es) ∙ ap (take p) (sym left_new)) in
+        let tested : before is_kept p list new ++ after is_kept p list new ≡ left_before p list new ++ those is_kept (drop (suc p) list) (drop (suc p) es) =
+        others ∙ (ap (λ (l : List Constraint). left_before p list new ++ l) (sym those_after) ∙ ap (λ (l : List Bool). left_before p list new ++ marked l (drop (suc p) list)) kept_tail) in
+        let first_es : IsFirstPrefix n s (left_before p list new ++ those is_kept (drop (suc p) list) (drop (suc p) es)) size = rw tested at first in
+        let long_take : length (take p list) ≡ length (take p es) = omega (arith, length-take-le p list (omega arith), length-take-le p es (omega arith)) in
+        let split = tests-split [] (take p list) (drop p list) (take p es) (drop p es) long_take in
+        let joined : List (List Constraint) = tests (left_before p list new ++ get_or list p anything ∷ []) (drop (suc p) list) (drop (suc p) es) in
+        let one : List Constraint = left_before p list new ++ those is_kept (drop (suc p) list) (drop (suc p) es) in
+        let at_list : tests [] (take p list ++ drop p list) (take p es ++ drop p es) ≡ tests [] list es = rw (take-append-drop p list, take-append-drop p es) refl in
+        let at_front : tests (those is_left (take p list) (take p es)) (drop p list) (drop p es) ≡ tests (left_before p list new) (drop p list) (drop p es) = ap (λ (l : List Constraint). tests l (drop p list) (drop p es)) front_es in
+        let whole : tests [] list es ≡ joined ++ one ∷ split.0 = whole-tests (tests [] list es) (tests [] (take p list ++ drop p list) (take p es ++ drop p es)) (tests (those is_left (take p list) (take p es)) (drop p list) (drop p es))
+        (tests (left_before p list new) (drop p list) (drop p es)) joined split.0 one at_list split.1 at_front (tests-at (left_before p list new) list es p in_list in_es has_es) in
+        rw whole
+        (phase-first n s 3 (tests (left_before p list new ++ get_or list p anything ∷ []) (drop (suc p) list) (drop (suc p) es)) (left_before p list new ++ those is_kept (drop (suc p) list) (drop (suc p) es)) split.0 size done first_es)
+
+-- ---- the end
+
+pub back-all : (n s : ℕ) (list : List Constraint) (old new : List Decision) → IsPassingBack n s list old new 0 → IsSecondPassed n s list old new
+back-all n s list old new h = record {
+  same = h.same;
+  second_pass = backward_second_pass n list new h.as_many h.backward;
+  narrow = phase-narrow n s 3 (tests [] list new) h.narrow;
+}
+
+-- ---- the places of the loop, which goes down
+
+pub back-step : (n s : ℕ) (list : List Constraint) (old new : List Decision) (at : ℕ) → 0 < at → IsPassingBack n s list old new at → IsPassingBack n s list old new (suc (at - 1))
+back-step n s list old new at some h = let e : at ≡ suc (at - 1) = omega arith in subst (λ (k : ℕ). IsPassingBack n s list old new k) e h
+
+pub back-within : (n s : ℕ) (list : List Constraint) (old new : List Decision) (at : ℕ) → 0 < at → IsPassingBack n s list old new at → at - 1 < length list
+back-within n s list old new at some h = let le = h.at_most in omega (arith, le, some)
+
+pub back-end : (n s : ℕ) (list : List Constraint) (old new : List Decision) (at : ℕ) → at ≤ 0 → IsPassingBack n s list old new at → IsSecondPassed n s list old new
+back-end n s list old new at none h = let e : at ≡ 0 = omega arith in back-all n s list old new (subst (λ (k : ℕ). IsPassingBack n s list old new k) e h)
+
+-- ---- what stands is of the list
+
+pub all-marked : (P : Constraint → Type 0) (marks : List Bool) (list : List Constraint) → All P list → All P (marked marks list)
+all-marked P [] list h = All-nil P
+all-marked P (m ∷ marks) [] h = All-nil P
+all-marked P (true ∷ marks) (c ∷ list) h = All-cons P c (marked marks list) (All-head P c list h) (all-marked P marks list (All-tail P c list h))
+all-marked P (false ∷ marks) (c ∷ list) h = all-marked P marks list (All-tail P c list h)
+
+pub all-others : (P : Constraint → Type 0) (list : List Constraint) (ds : List Decision) (place : ℕ) → All P list → All P (before is_kept place list ds ++ after is_kept place list ds)
+all-others P list ds place h =
+    All-append P (before is_kept place list ds) (after is_kept place list ds) (all-marked P (take place (map is_kept ds)) (take place list) (All-take P place list h))
+    (all-marked P (drop (suc place) (map is_kept ds)) (drop (suc place) list) (All-drop P (suc place) list h))
+
+pub length-others : (list : List Constraint) (ds : List Decision) (place : ℕ) → length (before is_kept place list ds ++ after is_kept place list ds) ≤ length list
+length-others list ds place =
+    let a = length-marked (take place (map is_kept ds)) (take place list) in
+    let b = length-marked (drop (suc place) (map is_kept ds)) (drop (suc place) list) in
+    let t = length-take place list in
+    let d = length-drop (suc place) list in
+    let both = length-append (before is_kept place list ds) (after is_kept place list ds) in
+    omega (arith, a, b, t, d, both)

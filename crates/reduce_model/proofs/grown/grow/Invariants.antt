@@ -1,0 +1,9 @@
+use Rattle.std.proofs.Common.{◌≡◌}
+use Rattle.reduce_model.proofs.Grows.{IsGrowing}
+use Rattle.reduce_model.proofs.grown.grow.Given as goal
+
+abbrev pub invariant-loop-constraint : goal.invariant-loop-constraint
+invariant-loop-constraint l = record {
+  grows : IsGrowing l.states l.fn.start l.list l.constraint-index l.dfa;
+  counted : l.count ≡ l.constraint-index;
+}

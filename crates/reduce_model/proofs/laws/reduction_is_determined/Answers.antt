@@ -1,0 +1,8 @@
+use Rattle.reduce_model.proofs.Consequences.{not_both, reduction_unique}
+use Rattle.reduce_model.proofs.laws.reduction_is_determined.Goals as goal
+
+pub returns-clause-one : goal.returns-clause-one
+returns-clause-one c = reduction_unique
+
+pub returns-clause-not_both : goal.returns-clause-not_both
+returns-clause-not_both c = not_both

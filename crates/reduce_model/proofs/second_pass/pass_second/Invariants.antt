@@ -1,0 +1,8 @@
+use Rattle.reduce_model.proofs.SecondPasses.{IsPassingBack}
+use Rattle.reduce_model.proofs.second_pass.pass_second.Given as goal
+
+abbrev pub invariant-loop-place : goal.invariant-loop-place
+invariant-loop-place l = IsPassingBack l.symbols l.states l.list l.fn.decisions l.decisions l.place
+
+abbrev pub decreases-loop-place : goal.decreases-loop-place
+decreases-loop-place l = l.place

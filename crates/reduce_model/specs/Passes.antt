@@ -1,0 +1,123 @@
+-- What each step of the reduction is given and what it makes of the decisions: internal to the crate.
+use Rattle.std.specs.Prelude.{◌≡◌, ◌↔◌, ℕ, suc, ◌<◌, ◌≤◌, List, [], ◌++◌, Some, length, map, take, drop, slice_get, ⊤}
+use Rattle.decl_base.specs.declared.refusal.Refusal.{Refusal}
+use Rattle.decl_base.specs.declared.refusal.Refusal.TheVariants.{States, Memory}
+use Rattle.dfa_core.specs.Automaton.{Automaton, Accepts, state_count}
+use Rattle.dfa_core.specs.Languages.{HasNoMember, IsLeastMember}
+use Rattle.dfa_core.specs.Traces.{IsTrace}
+use Rattle.dfa_minimise.specs.Wide.{IsWide}
+use Rattle.template_core.specs.declared.constraint.Constraint.{Constraint}
+use Rattle.reduce_model.specs.Building.{AreNarrow, IsFirstOfWide, all_but_each, in_phase, tests, up_to_each}
+use Rattle.reduce_model.specs.Deciding.{is_consistent, is_kept, is_left, is_strongest, those}
+use Rattle.reduce_model.specs.Keeping.{KeepsAll}
+use Rattle.reduce_model.specs.Reduction.{AreWitnesses, Breaks, IsReduction, TellsFirstPass, TellsSecondPass, TellsWeaker}
+use Rattle.reduce_model.specs.Sifting.{kept_of}
+use Rattle.reduce_model.specs.declared.decision.Decision.{Decision}
+use Rattle.reduce_model.specs.declared.decision.Decision.TheVariants.{Kept, Conflict, FirstPass, SecondPass}
+use Rattle.reduce_model.specs.declared.grown.Grown.{Grown}
+use Rattle.reduce_model.specs.declared.grown.Grown.TheVariants.{All, Wide}
+use Rattle.reduce_model.specs.declared.grown.Sought.{Sought}
+use Rattle.reduce_model.specs.declared.grown.Sought.TheVariants.{Found, Missing, TooWide}
+
+-- a decision without the marks of pruning and of what comes after it, of the first pass and the second, of the second alone
+abbrev pub before_pruning : Decision → Decision
+before_pruning Conflict = Conflict
+before_pruning decision = Kept
+
+abbrev pub before_first_pass : Decision → Decision
+before_first_pass FirstPass = Kept
+before_first_pass SecondPass = Kept
+before_first_pass decision = decision
+
+abbrev pub before_second_pass : Decision → Decision
+before_second_pass SecondPass = Kept
+before_second_pass decision = decision
+
+-- what pruning makes of decisions
+pub record IsPruned (list : List Constraint) (old new : List Decision) : Type 0 where
+  pub same : map before_pruning new ≡ old
+  pub weaker : TellsWeaker list new
+  pub later : map before_first_pass new ≡ new
+
+-- what the first pass makes of them, and when it stops
+pub record IsFirstPassed (n s : ℕ) (list : List Constraint) (old new : List Decision) : Type 0 where
+  pub same : map before_first_pass new ≡ old
+  pub first_pass : TellsFirstPass n list new
+  pub later : map before_second_pass new ≡ new
+  pub narrow : AreNarrow n s (in_phase 2 (up_to_each [] (those is_left list new)))
+
+abbrev pub RefusesFirstPass : ℕ → ℕ → List Constraint → List Decision → Refusal → Type 0
+RefusesFirstPass n s list old (States phase built) =
+    (decisions : List Decision) → length decisions ≡ length list → map is_strongest decisions ≡ map is_strongest old → TellsFirstPass n list decisions
+    → IsFirstOfWide n s (in_phase 2 (up_to_each [] (those is_left list decisions))) phase built
+RefusesFirstPass n s list old Memory = ⊤
+RefusesFirstPass n s list old refusal = ⊥
+
+-- what the second pass makes of them, and when it stops
+pub record IsSecondPassed (n s : ℕ) (list : List Constraint) (old new : List Decision) : Type 0 where
+  pub same : map before_second_pass new ≡ old
+  pub second_pass : TellsSecondPass n list new
+  pub narrow : AreNarrow n s (in_phase 3 (tests [] list new))
+
+abbrev pub RefusesSecondPass : ℕ → ℕ → List Constraint → List Decision → Refusal → Type 0
+RefusesSecondPass n s list old (States phase built) =
+    (decisions : List Decision) → length decisions ≡ length list → map is_left decisions ≡ map is_left old → TellsSecondPass n list decisions
+    → IsFirstOfWide n s (in_phase 3 (tests [] list decisions)) phase built
+RefusesSecondPass n s list old Memory = ⊤
+RefusesSecondPass n s list old refusal = ⊥
+
+-- none of the constraints of a model is implied by the others
+abbrev pub IsIrredundant : ℕ → List Constraint → Type 0
+IsIrredundant n model = (place : ℕ) (c : Constraint) → slice_get model place ≡ Some c → HasNoMember n (Breaks (take place model ++ drop (suc place) model) c) → ⊥
+
+-- the witnesses of a model, and when there are none
+pub record IsWitnessed (n s : ℕ) (model : List Constraint) (witnesses : List (List ℕ)) : Type 0 where
+  pub witnesses_of : AreWitnesses n [] model witnesses
+  pub narrow : AreNarrow n s (in_phase 4 (all_but_each [] model))
+
+abbrev pub RefusesWitnesses : ℕ → ℕ → List Constraint → Refusal → Type 0
+RefusesWitnesses n s model (States phase built) = IsFirstOfWide n s (in_phase 4 (all_but_each [] model)) phase built
+RefusesWitnesses n s model Memory = ⊤
+RefusesWitnesses n s model refusal = ⊥
+
+-- what becomes of a sift's decisions in the end: with its least trace a reduction
+pub record IsImpliedDropped (n s : ℕ) (list : List Constraint) (old new : List Decision) (witnesses : List (List ℕ)) : Type 0 where
+  pub as_many : length new ≡ length old
+  pub reduction : (example : List ℕ) → IsLeastMember n (KeepsAll (kept_of list old)) example → IsReduction n s list (record { decisions = new; witnesses = witnesses; example = example })
+
+-- what an automaton accepts that keeps a list too
+abbrev pub AcceptsAll : Automaton → List Constraint → List ℕ → Type 0
+AcceptsAll a list w = Accepts a w × KeepsAll list w
+
+-- an automaton joined with a list: no part of it with one or more of the constraints is wide
+pub record IsGrownBy (s : ℕ) (a : Automaton) (list : List Constraint) (grown : Automaton) : Type 0 where
+  pub over : grown.symbols ≡ a.symbols
+  pub same : (w : List ℕ) → IsTrace a.symbols w → Accepts grown w ↔ AcceptsAll a list w
+  pub few : state_count grown ≤ 65536
+  pub narrow : (size : ℕ) → 0 < size → size ≤ length list → IsWide a.symbols (AcceptsAll a (take size list)) s → ⊥
+
+-- or the first part that is
+pub record IsWideFrom (s : ℕ) (a : Automaton) (list : List Constraint) (size : ℕ) : Type 0 where
+  pub some : 0 < size
+  pub within : size ≤ length list
+  pub wide : IsWide a.symbols (AcceptsAll a (take size list)) s
+  pub first : (less : ℕ) → 0 < less → less < size → IsWide a.symbols (AcceptsAll a (take less list)) s → ⊥
+
+abbrev pub IsGrown : ℕ → Automaton → List Constraint → Grown → Type 0
+IsGrown s a list (All grown) = IsGrownBy s a list grown
+IsGrown s a list (Wide size) = IsWideFrom s a list size
+
+-- the list and its prefixes are narrow; or the prefix of this length is the first that is wide
+abbrev pub IsNarrowList : ℕ → ℕ → List Constraint → Type 0
+IsNarrowList n s list = (size : ℕ) → IsWide n (KeepsAll (take size list)) s → ⊥
+
+pub record IsFirstPrefix (n s : ℕ) (list : List Constraint) (size : ℕ) : Type 0 where
+  pub within : size ≤ length list
+  pub wide : IsWide n (KeepsAll (take size list)) s
+  pub first : (less : ℕ) → less < size → IsWide n (KeepsAll (take less list)) s → ⊥
+
+-- the least trace that keeps a list and breaks a constraint
+abbrev pub IsSought : ℕ → ℕ → List Constraint → Constraint → Sought → Type 0
+IsSought n s list c (Found trace) = IsLeastMember n (Breaks list c) trace × IsNarrowList n s list
+IsSought n s list c Missing = HasNoMember n (Breaks list c) × IsNarrowList n s list
+IsSought n s list c (TooWide size) = IsFirstPrefix n s list size

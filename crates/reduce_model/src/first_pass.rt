@@ -1,0 +1,49 @@
+ghost use Rattle.std.specs.Prelude.{◌≡◌, ◌≤◌, length, map, All, OnOk, IfErr};
+ghost use Rattle.template_core.specs.Constraints.{IsWellMadeFor};
+ghost use Rattle.reduce_model.specs.Passes.{before_first_pass, IsFirstPassed, RefusesFirstPass};
+
+use crate::Decision;
+use crate::kept::{Tried, try_candidate};
+use decl_base::Refusal;
+use dfa_core::Dfa;
+use std::alloc::Global;
+use template_core::Constraint;
+
+/// Marks, from the first to the last, each candidate that those before it imply which are left.
+pub(crate) fn pass_first(
+    alloc: Global,
+    list: &[Constraint],
+    symbols: u32,
+    states: u64,
+    decisions: &mut [Decision],
+) -> Result<(), Refusal>
+    requires made { All (IsWellMadeFor symbols) list.now }
+    requires as_many { length decisions.old ≡ length list.now }
+    requires few { length list.now ≤ 65536 }
+    requires some_states { 1 ≤ states }
+    requires few_states { states ≤ 65536 }
+    requires pruned { map before_first_pass decisions.old ≡ decisions.old }
+    ensures ok { OnOk result (IsFirstPassed symbols states list.now decisions.old decisions.new) }
+    ensures err { IfErr result (RefusesFirstPass symbols states list.now decisions.old) }
+{
+    let mut left = Dfa::everything(alloc, symbols)?;
+    let mut length = 0;
+    for place in 0..list.len() {
+        if decisions[place].is_kept() {
+            match try_candidate(alloc, &left, &list[place], states)? {
+                Tried::Implied => decisions[place] = Decision::FirstPass,
+                Tried::Left(more) => {
+                    left = more;
+                    length += 1;
+                }
+                Tried::TooWide => {
+                    return Err(Refusal::States {
+                        phase: 2,
+                        built: length + 1,
+                    });
+                }
+            }
+        }
+    }
+    Ok(())
+}

@@ -1,0 +1,83 @@
+ghost use Rattle.std.specs.Prelude.{◌≡◌, ◌≤◌, length, All, IfOk, IfErr};
+ghost use Rattle.dfa_core.specs.Automaton.{state_count};
+ghost use Rattle.template_core.specs.Constraints.{IsWellMadeFor};
+ghost use Rattle.reduce_model.specs.Passes.{IsGrown, IsSought};
+
+use crate::kept::{extended, first_broken};
+use decl_base::{Refusal, Trace};
+use dfa_core::Dfa;
+use std::alloc::Global;
+use template_core::Constraint;
+
+/// What comes of an automaton when a list of constraints joins it, one after the other.
+#[derive(Drop)]
+pub(crate) enum Grown {
+    /// The automaton with all of them.
+    All(Dfa),
+    /// With so many of them it tells too many traces apart.
+    Wide(u32),
+}
+
+/// Whether a list implies a constraint.
+#[derive(Drop)]
+pub(crate) enum Sought {
+    /// It doesn't: the least trace that keeps the list and breaks the constraint.
+    Found(Trace),
+    /// It does.
+    Missing,
+    /// So many constraints of the list tell too many traces apart.
+    TooWide(u32),
+}
+
+/// Joins an automaton with a list of constraints.
+fn grow(
+    alloc: Global,
+    start: Dfa,
+    list: &[Constraint],
+    symbols: u32,
+    states: u64,
+) -> Result<Grown, Refusal>
+    requires made { All (IsWellMadeFor symbols) list.now }
+    requires few { state_count start ≤ 65536 }
+    requires short { length list.now ≤ 65536 }
+    requires few_states { states ≤ 65536 }
+    ensures ok { IfOk result (IsGrown states start list.now) }
+    ensures err { IfErr result (λ e. e ≡ Refusal.Memory) }
+{
+    let mut dfa = start;
+    let mut count = 0;
+    for constraint in list {
+        count += 1;
+        match extended(alloc, &dfa, constraint, states)? {
+            Some(more) => dfa = more,
+            None => return Ok(Grown::Wide(count)),
+        }
+    }
+    Ok(Grown::All(dfa))
+}
+
+/// Looks for the least trace that keeps a list and breaks a constraint.
+pub(crate) fn seek(
+    alloc: Global,
+    list: &[Constraint],
+    constraint: &Constraint,
+    symbols: u32,
+    states: u64,
+) -> Result<Sought, Refusal>
+    requires made { All (IsWellMadeFor symbols) list.now }
+    requires candidate { IsWellMadeFor symbols constraint.now }
+    requires short { length list.now ≤ 65536 }
+    requires some_states { 1 ≤ states }
+    requires few_states { states ≤ 65536 }
+    ensures ok { IfOk result (IsSought symbols states list.now constraint.now) }
+    ensures err { IfErr result (λ e. e ≡ Refusal.Memory) }
+{
+    let all = Dfa::everything(alloc, symbols)?;
+    match grow(alloc, all, list, symbols, states)? {
+        Grown::All(dfa) => match first_broken(alloc, &dfa, constraint)? {
+            Some(trace) => Ok(Sought::Found(trace)),
+            None => Ok(Sought::Missing),
+        },
+        Grown::Wide(count) => Ok(Sought::TooWide(count)),
+    }
+}

@@ -4,8 +4,6 @@
 #[cfg(test)]
 mod automata;
 #[cfg(test)]
-mod candidates;
-#[cfg(test)]
 mod reports;
 #[cfg(test)]
 mod tests;

@@ -16,3 +16,6 @@ pub use laws::{
 };
 pub use scored::Scored;
 pub use selection::candidates;
+
+#[cfg(test)]
+mod tests;

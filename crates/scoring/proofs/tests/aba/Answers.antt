@@ -1,8 +1,8 @@
 use Rattle.std.proofs.Common.{ℕ, zero, suc, ◌<◌, [], ◌∷◌, nat_eq, ◌∙◌, arith, lit<}
 use Rattle.template_core.specs.Counts.{traces_with}
-use Rattle.end_to_end.proofs.candidates.aab.Goals as goal
+use Rattle.scoring.proofs.tests.aba.Goals as goal
 
-each : (rank : ℕ) → rank < 2 → 0 < traces_with nat_eq rank ((0 ∷ 0 ∷ 1 ∷ []) ∷ [])
+each : (rank : ℕ) → rank < 2 → 0 < traces_with nat_eq rank ((0 ∷ 1 ∷ 0 ∷ []) ∷ [])
 each zero h = lit< tt
 each (suc zero) h = lit< tt
 each (suc (suc n)) h = absurd (omega arith)

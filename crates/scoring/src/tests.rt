@@ -1,11 +1,11 @@
-//! Scores of small logs by `candidates` itself. The activities a, b and c are 0, 1 and 2, and so are their ranks.
+//! Scores of small logs. The activities a, b and c are 0, 1 and 2, and so are their ranks.
 ghost use Rattle.std.specs.Prelude.{◌≡◌, IfOk};
 ghost use Rattle.interplay_kb.specs.Stands.{activity_count};
 ghost use Rattle.scoring.specs.Conditions.{HasEachEvent};
 
-use decl_base::{Refusal, Threshold, Thresholds};
+use crate::{Scored, candidates};
+use decl_base::{Limits, Refusal, Threshold, Thresholds};
 use interplay_kb::{Kb, feed_trace, with_activities};
-use scoring::{Scored, candidates};
 use std::alloc::Global;
 use std::process::Abort;
 use std::test::Fail;
@@ -97,7 +97,8 @@ const fn all(num: u64, den: u64) -> Scores {
 #[test]
 fn scores_of_one_trace(rt: HostRuntime) -> Result<(), Fail> {
     let alloc = rt.alloc();
-    let list = candidates(alloc, &aab(alloc)?, &[0, 1], &ANY, 65_536)?;
+    let limit = Limits::standard().candidates;
+    let list = candidates(alloc, &aab(alloc)?, &[0, 1], &ANY, limit)?;
     has_scores(
         &rt,
         &list,
@@ -109,7 +110,7 @@ fn scores_of_one_trace(rt: HostRuntime) -> Result<(), Fail> {
             (Kind::AlternateSuccession, 0, 1, all(2, 3)),
         ],
     );
-    let list = candidates(alloc, &aba(alloc)?, &[0, 1], &ANY, 65_536)?;
+    let list = candidates(alloc, &aba(alloc)?, &[0, 1], &ANY, limit)?;
     has_scores(
         &rt,
         &list,
@@ -120,7 +121,7 @@ fn scores_of_one_trace(rt: HostRuntime) -> Result<(), Fail> {
             (Kind::NotSuccession, 1, 0, all(1, 3)),
         ],
     );
-    let list = candidates(alloc, &ba(alloc)?, &[0, 1], &ANY, 65_536)?;
+    let list = candidates(alloc, &ba(alloc)?, &[0, 1], &ANY, limit)?;
     has_scores(&rt, &list, &[(Kind::ChainPrecedence, 0, 1, all(0, 1))]);
     Ok(())
 }
@@ -128,10 +129,11 @@ fn scores_of_one_trace(rt: HostRuntime) -> Result<(), Fail> {
 #[test]
 fn scores_of_several_traces(rt: HostRuntime) -> Result<(), Fail> {
     let alloc = rt.alloc();
-    let list = candidates(alloc, &ab_and_c(alloc)?, &[0, 1, 2], &ANY, 65_536)?;
+    let limit = Limits::standard().candidates;
+    let list = candidates(alloc, &ab_and_c(alloc)?, &[0, 1, 2], &ANY, limit)?;
     let apart = [(1, 1), (1, 1), (1, 2)];
     has_scores(&rt, &list, &[(Kind::NotCoExistence, 0, 2, apart)]);
-    let list = candidates(alloc, &ab_a_and_c(alloc)?, &[0, 1, 2], &ANY, 65_536)?;
+    let list = candidates(alloc, &ab_a_and_c(alloc)?, &[0, 1, 2], &ANY, limit)?;
     let half = [(1, 2), (1, 3), (1, 9)];
     has_scores(&rt, &list, &[(Kind::Response, 0, 1, half)]);
     Ok(())

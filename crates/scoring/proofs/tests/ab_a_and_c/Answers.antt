@@ -1,6 +1,6 @@
 use Rattle.std.proofs.Common.{ℕ, zero, suc, ◌<◌, [], ◌∷◌, nat_eq, ◌∙◌, arith, lit<}
 use Rattle.template_core.specs.Counts.{traces_with}
-use Rattle.end_to_end.proofs.candidates.ab_a_and_c.Goals as goal
+use Rattle.scoring.proofs.tests.ab_a_and_c.Goals as goal
 
 each : (rank : ℕ) → rank < 3 → 0 < traces_with nat_eq rank ((0 ∷ 1 ∷ []) ∷ (0 ∷ []) ∷ (2 ∷ []) ∷ [])
 each zero h = lit< tt

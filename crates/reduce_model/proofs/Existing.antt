@@ -1,13 +1,12 @@
 -- That a list of candidates has no reduction can't be.
-use Rattle.std.proofs.Common.{◌≡◌, ◌≢◌, ◌↔◌, ◌⊎◌, ℕ, zero, suc, ◌+◌, ◌<◌, ◌≤◌, inl, inr, List, [], ◌∷◌, ◌++◌, Bool, true, false, Option, None, Some, length, map, take, drop, get_or, set, refl, sym, ap, ◌∙◌, subst, arith, get_or-set_same, get_or-set_other}
+use Rattle.std.proofs.Common.{◌≡◌, ◌↔◌, ◌⊎◌, ℕ, zero, suc, ◌+◌, ◌<◌, ◌≤◌, inl, inr, List, [], ◌∷◌, ◌++◌, Bool, true, false, Option, None, Some, length, map, take, drop, get_or, set, refl, sym, ap, ◌∙◌, subst, arith, get_or-set_same, get_or-set_other}
 use Rattle.std.proofs.lemmas.Bool.{cases_eq, cases_lt}
 use Rattle.std.proofs.lemmas.List.{drop-set-lt, ext_get_or, get_or-map, get_or_append_left, get_or_push, length-map, length-set, length_push, take-append-le, take_all}
-use Rattle.std.proofs.lemmas.Option.{slice_get-get_or, get_or_from_slice_get}
 use Rattle.template_core.specs.declared.constraint.Constraint.{Constraint}
-use Rattle.reduce_model.proofs.Determined.{Always, Conflicts, Has, ImpliesWith, backward_second_pass, forward_conflicts, forward_first_pass}
+use Rattle.reduce_model.proofs.Determined.{Always, Conflicts, ImpliesWith, backward_second_pass, forward_conflicts, forward_first_pass}
 use Rattle.reduce_model.proofs.Marks.{IsBackward, IsForward, anything, true_or_false}
 use Rattle.reduce_model.proofs.Prunes.{above-within}
-use Rattle.reduce_model.proofs.Writes.{WeakerAt, first_above-unique, weaker-tells}
+use Rattle.reduce_model.proofs.Writes.{first_above-unique, weaker-tells}
 use Rattle.reduce_model.specs.Deciding.{is_consistent, is_kept, is_left, is_strongest, marked}
 use Rattle.decl_base.specs.declared.refusal.Refusal.TheVariants.{States}
 use Rattle.reduce_model.proofs.Lists.{first-unique}

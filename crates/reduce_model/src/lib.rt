@@ -1,4 +1,4 @@
-//! Lists of constraints that keep only what the ones before don't rule out.
+//! Lists of constraints reduced: conflicts are removed, and what the others imply.
 #![tactic(auto)]
 
 mod conflicts;

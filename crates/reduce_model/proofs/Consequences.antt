@@ -1,5 +1,5 @@
 -- The laws of the reduction.
-use Rattle.std.proofs.Common.{◌≡◌, ◌↔◌, ◌⊎◌, ℕ, zero, suc, ◌+◌, ◌<◌, ◌≤◌, inl, inr, List, [], ◌∷◌, ◌++◌, Bool, true, false, IsTrue, Some, length, map, take, drop, get_or, refl, sym, ap, ◌∙◌, subst, arith, append_assoc}
+use Rattle.std.proofs.Common.{◌≡◌, ◌⊎◌, ℕ, zero, suc, ◌<◌, inl, inr, List, [], ◌∷◌, ◌++◌, true, false, Some, length, map, take, drop, get_or, refl, sym, ap, ◌∙◌, subst, append_assoc}
 use Rattle.std.specs.List.{All, slice_get}
 use Rattle.std.proofs.lemmas.List.{append-nil}
 use Rattle.std.proofs.lemmas.Option.{get_or_from_slice_get, slice_get_within}
@@ -15,10 +15,10 @@ use Rattle.reduce_model.proofs.Marks.{anything, true_or_false}
 use Rattle.reduce_model.proofs.Meaning.{keeps-at, same-traces}
 use Rattle.reduce_model.specs.Building.{built_lists}
 use Rattle.reduce_model.specs.Deciding.{IsAt, before, is_consistent, is_kept, those}
-use Rattle.reduce_model.specs.Keeping.{IsKeepable, KeepsAll, KeepsOne}
+use Rattle.reduce_model.specs.Keeping.{IsKeepable, KeepsAll}
 use Rattle.reduce_model.specs.Reduction.{AreWitnesses, Breaks, Implies, IsReduced, IsReduction, Reduction, RefusesReduction}
 use Rattle.reduce_model.specs.declared.decision.Decision.{Decision}
-use Rattle.reduce_model.specs.declared.decision.Decision.TheVariants.{Kept, Conflict}
+use Rattle.reduce_model.specs.declared.decision.Decision.TheVariants.{Kept}
 use Rattle.std.proofs.lemmas.List.{get_or-map}
 
 pub keepable : (n s : ℕ) (list : List Constraint) (reduction : Reduction) → IsReduction n s list reduction → IsKeepable n (those is_kept list reduction.decisions)

@@ -1,13 +1,13 @@
 -- The decisions of the reduction are determined, step by step.
-use Rattle.std.proofs.Common.{◌≡◌, ◌↔◌, ◌⊎◌, ℕ, zero, suc, ◌+◌, ◌<◌, ◌≤◌, inl, inr, List, [], ◌∷◌, ◌++◌, Bool, true, false, IsTrue, length, map, take, drop, get_or, refl, sym, ap, ◌∙◌, arith}
+use Rattle.std.proofs.Common.{◌≡◌, ◌↔◌, ℕ, zero, suc, ◌+◌, ◌<◌, ◌≤◌, inl, inr, List, [], ◌∷◌, ◌++◌, Bool, true, false, IsTrue, length, map, take, drop, get_or, refl, sym, ap, ◌∙◌, arith}
 use Rattle.std.proofs.lemmas.Bool.{cases_lt}
 use Rattle.std.proofs.lemmas.List.{ext_get_or, get_or-map, length-map, take_all}
 use Rattle.dfa_core.specs.Languages.{HasNoMember}
 use Rattle.template_core.specs.declared.constraint.Constraint.{Constraint}
-use Rattle.reduce_model.proofs.Marks.{Agree, IsBackward, IsForward, Lacks, Tells, anything, at_place, backward_same, forward_same, lacks, tells, true_or_false}
-use Rattle.reduce_model.specs.Deciding.{IsAt, is_consistent, is_kept, is_left, is_strongest, marked}
+use Rattle.reduce_model.proofs.Marks.{Agree, IsBackward, IsForward, anything, at_place, backward_same, forward_same, lacks, tells, true_or_false}
+use Rattle.reduce_model.specs.Deciding.{is_consistent, is_kept, is_left, is_strongest, marked}
 use Rattle.reduce_model.specs.Keeping.{KeepsAll}
-use Rattle.reduce_model.specs.Reduction.{Implies, IsAbove, IsFirstAbove, IsReduced, TellsConflicts, TellsFirstPass, TellsSecondPass, TellsWeaker}
+use Rattle.reduce_model.specs.Reduction.{Implies, IsFirstAbove, IsReduced, TellsConflicts, TellsFirstPass, TellsSecondPass, TellsWeaker}
 use Rattle.reduce_model.specs.declared.decision.Decision.{Decision}
 use Rattle.reduce_model.specs.declared.decision.Decision.TheVariants.{Kept, Conflict, Weaker, FirstPass, SecondPass}
 

@@ -1,5 +1,5 @@
 -- The first pass that goes on by one candidate.
-use Rattle.std.proofs.Common.{◌≡◌, ◌≢◌, ◌↔◌, ◌⊎◌, ℕ, zero, suc, ◌+◌, ◌<◌, ◌≤◌, inl, inr, List, [], ◌∷◌, ◌++◌, Bool, true, false, IsTrue, length, map, take, drop, get_or, set, refl, sym, ap, ◌∙◌, arith, nat_eq, add-one, drop-cons, get_or-set_same, get_or-set_other}
+use Rattle.std.proofs.Common.{◌≡◌, ◌≢◌, ◌↔◌, ℕ, zero, suc, ◌+◌, ◌<◌, ◌≤◌, inl, inr, List, [], ◌∷◌, ◌++◌, Bool, true, false, length, map, take, drop, get_or, set, refl, sym, ap, ◌∙◌, arith, nat_eq, add-one, drop-cons, get_or-set_same, get_or-set_other}
 use Rattle.std.proofs.lemmas.Bool.{cases_lt, cases_eq}
 use Rattle.std.proofs.lemmas.List.{append-nil, get_or-map, length-map, length-set, length_push, map-set, take_all, take-append-le, take-set-le}
 use Rattle.dfa_core.specs.Automaton.{Automaton, Accepts, IsEverything, state_count}
@@ -15,8 +15,8 @@ use Rattle.reduce_model.proofs.Marks.{IsForward, anything, true_or_false}
 use Rattle.reduce_model.proofs.Members.{over-wide, wide-over}
 use Rattle.reduce_model.proofs.Sifts.{empty-narrow, keeps-push, length-take_le, push-keeps}
 use Rattle.reduce_model.proofs.Writes.{fixed-at, fixed-fixed, map-set_same, marked-next, marked-split, view_same}
-use Rattle.reduce_model.specs.Building.{AreNarrow, IsFirstOfWide, in_phase, up_to_each}
-use Rattle.reduce_model.specs.Deciding.{is_consistent, is_kept, is_left, is_strongest, marked, those}
+use Rattle.reduce_model.specs.Building.{IsFirstOfWide, in_phase, up_to_each}
+use Rattle.reduce_model.specs.Deciding.{is_kept, is_left, is_strongest, marked, those}
 use Rattle.reduce_model.specs.Joining.{AcceptsBroken, AcceptsKept, Extends}
 use Rattle.reduce_model.specs.Keeping.{KeepsAll, KeepsOne}
 use Rattle.reduce_model.specs.Passes.{IsFirstPassed, IsNarrowList, before_first_pass, before_second_pass}
@@ -281,9 +281,6 @@ module _ (n s : ℕ) (list : List Constraint) (old new : List Decision) (at : �
                 let implies : Implies n (marked (take at (map is_left new)) (take at list)) (get_or list at anything) = rw same_before (says.0 lacks) in
                 absurd (not_implied broken implies)
           ]
-
-      pub rest_es : List Constraint
-      rest_es = marked (drop (suc at) (map is_left es)) (drop (suc at) list)
 
       split_es : those is_left list es ≡ left_before at list new ++ get_or list at anything ∷ marked (drop (suc at) (map is_left es)) (drop (suc at) list)
       split_es =

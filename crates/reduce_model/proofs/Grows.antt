@@ -1,5 +1,5 @@
 -- An automaton that constraints join, one after the other.
-use Rattle.std.proofs.Common.{◌≡◌, ◌↔◌, ◌⊎◌, ℕ, zero, suc, ◌+◌, ◌<◌, ◌≤◌, inl, inr, List, [], ◌∷◌, ◌++◌, length, take, refl, sym, ap, ◌∙◌, arith}
+use Rattle.std.proofs.Common.{◌≡◌, ◌↔◌, ℕ, zero, suc, ◌+◌, ◌<◌, ◌≤◌, inl, inr, List, [], ◌∷◌, ◌++◌, length, take, refl, ◌∙◌, arith}
 use Rattle.std.proofs.lemmas.Bool.{cases_lt}
 use Rattle.std.proofs.lemmas.List.{take_all}
 use Rattle.dfa_core.specs.Automaton.{Automaton, Accepts, IsEverything, state_count}
@@ -10,7 +10,7 @@ use Rattle.template_core.specs.declared.constraint.Constraint.{Constraint}
 use Rattle.reduce_model.proofs.Members.{least-same, over-wide, wide-over}
 use Rattle.reduce_model.proofs.Sifts.{empty-narrow, keeps-push, push-keeps}
 use Rattle.reduce_model.specs.Joining.{AcceptsBroken, AcceptsKept, Extends}
-use Rattle.reduce_model.specs.Keeping.{KeepsAll, KeepsOne}
+use Rattle.reduce_model.specs.Keeping.{KeepsAll}
 use Rattle.reduce_model.specs.Passes.{AcceptsAll, IsFirstPrefix, IsGrownBy, IsNarrowList, IsWideFrom}
 use Rattle.reduce_model.specs.Reduction.{Breaks}
 

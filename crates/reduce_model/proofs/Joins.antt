@@ -1,5 +1,5 @@
 -- What the least automaton of a list and a candidate tells.
-use Rattle.std.proofs.Common.{◌≡◌, ◌↔◌, ◌⊎◌, ℕ, ◌+◌, inl, inr, List, Bool, true, false, refl}
+use Rattle.std.proofs.Common.{◌≡◌, ℕ, ◌+◌, inl, inr, List}
 use Rattle.std.proofs.lemmas.Bool.{cases_lt}
 use Rattle.dfa_core.specs.Automaton.{Automaton, Accepts, state_count}
 use Rattle.dfa_core.specs.Languages.{HasNoMember, IsLeastMember}
@@ -7,7 +7,7 @@ use Rattle.dfa_minimise.proofs.Widths.{wide-from_states}
 use Rattle.dfa_minimise.specs.Wide.{IsWide}
 use Rattle.template_core.specs.declared.constraint.Constraint.{Constraint}
 use Rattle.reduce_model.proofs.Members.{least-same, over-wide, wide-over}
-use Rattle.reduce_model.specs.Joining.{AcceptsBroken, AcceptsKept, Extends, IsNarrowed, IsTooWide, JoinsKept}
+use Rattle.reduce_model.specs.Joining.{AcceptsKept, Extends, IsNarrowed, IsTooWide, JoinsKept}
 use Rattle.reduce_model.specs.declared.kept.KeptList.{KeptList}
 
 pub none-joins : (a : Automaton) (c : Constraint) (narrowed : Automaton) → IsNarrowed a c narrowed → HasNoMember narrowed.symbols (Accepts narrowed) → HasNoMember a.symbols (AcceptsKept a c)

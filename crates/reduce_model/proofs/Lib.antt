@@ -13,3 +13,4 @@ pub mod Witnessing
 pub mod Meaning
 pub mod Reduces
 pub mod Consequences
+pub mod Existing

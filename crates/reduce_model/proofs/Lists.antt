@@ -1,12 +1,12 @@
 -- Lists that are built one after the other, and the first of them that is wide.
-use Rattle.std.proofs.Common.{◌≡◌, ◌⊎◌, ℕ, zero, suc, ◌+◌, ◌<◌, ◌≤◌, inl, inr, List, [], ◌∷◌, ◌++◌, Bool, true, false, length, map, take, drop, refl, sym, ap, ◌∙◌, arith, append_assoc, length-append}
+use Rattle.std.proofs.Common.{◌≡◌, ℕ, zero, suc, ◌+◌, ◌<◌, ◌≤◌, inl, inr, List, [], ◌∷◌, ◌++◌, length, map, take, drop, refl, sym, ap, ◌∙◌, arith, append_assoc}
 use Rattle.std.specs.List.{AllByRecursion}
 use Rattle.std.proofs.lemmas.Bool.{cases_lt}
 use Rattle.std.proofs.lemmas.List.{append-nil, length_push, take_all, take-append-le}
 use Rattle.dfa_minimise.specs.Wide.{IsWide}
 use Rattle.template_core.specs.declared.constraint.Constraint.{Constraint}
 use Rattle.reduce_model.specs.Building.{AreNarrow, Built, IsFirstOfWide, all_but_each, built_in, growing, in_phase, tests, up_to_each}
-use Rattle.reduce_model.specs.Deciding.{is_kept, is_left, marked, those}
+use Rattle.reduce_model.specs.Deciding.{is_kept, is_left, those}
 use Rattle.reduce_model.specs.Keeping.{KeepsAll}
 use Rattle.reduce_model.specs.Passes.{IsFirstPrefix, IsNarrowList}
 use Rattle.reduce_model.specs.declared.decision.Decision.{Decision}

@@ -1,27 +1,25 @@
 -- What the decisions of the reduction say of traces.
-use Rattle.std.proofs.Common.{◌≡◌, ◌↔◌, ◌⊎◌, ℕ, zero, suc, ◌+◌, ◌<◌, ◌≤◌, inl, inr, List, [], ◌∷◌, ◌++◌, Bool, true, false, IsTrue, Some, length, map, take, drop, get_or, refl, sym, ap, ◌∙◌, subst, arith, add-one}
+use Rattle.std.proofs.Common.{◌≡◌, ◌↔◌, ◌⊎◌, ℕ, zero, suc, ◌+◌, ◌<◌, ◌≤◌, inl, inr, List, [], ◌∷◌, ◌++◌, Bool, true, false, Some, length, map, take, drop, get_or, refl, sym, ap, ◌∙◌, arith, add-one}
 use Rattle.std.specs.List.{All, slice_get}
 use Rattle.std.proofs.lemmas.Bool.{cases_eq, cases_lt}
 use Rattle.std.proofs.lemmas.List.{get_or-map, get_or-take, length-map, take_all}
 use Rattle.std.proofs.lemmas.List.Elements.{All-get_or}
-use Rattle.std.proofs.lemmas.Option.{get_or_from_slice_get, slice_get_within}
-use Rattle.dfa_core.specs.Languages.{HasNoMember, IsLeastMember}
+use Rattle.std.proofs.lemmas.Option.{slice_get_within}
 use Rattle.dfa_core.specs.Traces.{IsTrace}
 use Rattle.template_core.specs.Constraints.{IsWellMade, IsWellMadeFor}
 use Rattle.template_core.specs.declared.constraint.Constraint.{Constraint}
 use Rattle.template_set.proofs.Rows.{keeps_below, strict}
 use Rattle.template_set.specs.Hierarchy.{IsStronger}
 use Rattle.template_set.specs.Hierarchy.IsStronger.{directly, through}
-use Rattle.reduce_model.proofs.Determined.{Has, ImpliesWith, conflict-lacks, first_pass-lacks, first_pass_forward, second_pass-lacks, second_pass_backward}
 use Rattle.reduce_model.proofs.FirstPasses.{before-has, before-lacks, is-kept, none-implies}
 use Rattle.reduce_model.proofs.Marks.{anything, at_place, true_or_false}
 use Rattle.reduce_model.proofs.Prunes.{above-here, here-above}
-use Rattle.reduce_model.proofs.Sifts.{keeps-push, push-keeps}
+use Rattle.reduce_model.proofs.Sifts.{push-keeps}
 use Rattle.reduce_model.proofs.Writes.{marked-split}
 use Rattle.reduce_model.specs.Deciding.{is_consistent, is_kept, is_left, is_strongest, marked, those}
 use Rattle.reduce_model.specs.Keeping.{KeepsAll, KeepsOne}
 use Rattle.reduce_model.specs.Passes.{IsIrredundant}
-use Rattle.reduce_model.specs.Reduction.{Breaks, Implies, IsAbove, IsFirstAbove, IsReduced}
+use Rattle.reduce_model.specs.Reduction.{Implies, IsAbove, IsReduced}
 use Rattle.reduce_model.specs.declared.decision.Decision.{Decision}
 use Rattle.reduce_model.specs.declared.decision.Decision.TheVariants.{Kept, Conflict, Weaker, FirstPass, SecondPass}
 

@@ -1,5 +1,5 @@
 -- The steps of the reduction put together.
-use Rattle.std.proofs.Common.{◌≡◌, ◌↔◌, ◌⊎◌, ℕ, zero, suc, ◌+◌, ◌-◌, ◌<◌, ◌≤◌, inl, inr, List, [], ◌∷◌, ◌++◌, Bool, true, false, IsTrue, Some, length, map, take, drop, get_or, refl, sym, ap, ◌∙◌, subst, arith, append_assoc}
+use Rattle.std.proofs.Common.{◌≡◌, ◌↔◌, ℕ, zero, suc, ◌+◌, ◌<◌, ◌≤◌, inl, inr, List, [], ◌∷◌, ◌++◌, Bool, true, false, length, map, take, drop, get_or, refl, sym, ap, ◌∙◌, subst, arith, append_assoc}
 use Rattle.std.specs.List.{All}
 use Rattle.std.proofs.lemmas.Bool.{cases_lt}
 use Rattle.std.proofs.lemmas.List.{append-nil, get_or-map, get_or-take, length-map, length-take, length-take-le, take-take, take_all, take_more}
@@ -15,13 +15,13 @@ use Rattle.reduce_model.proofs.Marks.{IsForward, anything, forward_same}
 use Rattle.reduce_model.proofs.Meaning.{irredundant, same-traces}
 use Rattle.reduce_model.proofs.Members.{least-same}
 use Rattle.reduce_model.proofs.Sifts.{empty-narrow}
-use Rattle.reduce_model.proofs.Writes.{WeakerAt, marked-split, tells-weaker, view_same, weaker-tells}
+use Rattle.reduce_model.proofs.Writes.{marked-split, tells-weaker, view_same, weaker-tells}
 use Rattle.reduce_model.specs.Building.{AreNarrow, Built, IsFirstOfWide, all_but_each, built_lists, in_phase, tests, up_to_each}
 use Rattle.reduce_model.specs.Deciding.{is_consistent, is_kept, is_left, is_strongest, marked, those}
-use Rattle.reduce_model.specs.Keeping.{IsKeepable, KeepsAll}
+use Rattle.reduce_model.specs.Keeping.{KeepsAll}
 use Rattle.reduce_model.specs.Passes.{IsFirstPassed, IsIrredundant, IsNarrowList, IsPruned, IsSecondPassed, IsWitnessed, RefusesFirstPass, RefusesSecondPass, RefusesWitnesses, before_first_pass, before_pruning, before_second_pass}
-use Rattle.reduce_model.specs.Reduction.{IsReduced, IsReduction, Reduction, RefusesReduction, TellsConflicts, TellsFirstPass, TellsWeaker}
-use Rattle.reduce_model.specs.Sifting.{IsFirstWide, IsKeptAfter, IsNarrow, IsSifted, RefusesSift, kept_of}
+use Rattle.reduce_model.specs.Reduction.{IsReduced, IsReduction, RefusesReduction, TellsConflicts, TellsFirstPass, TellsWeaker}
+use Rattle.reduce_model.specs.Sifting.{IsFirstWide, IsNarrow, IsSifted, RefusesSift, kept_of}
 use Rattle.reduce_model.specs.declared.decision.Decision.{Decision}
 use Rattle.reduce_model.specs.declared.decision.Decision.TheVariants.{Kept, Conflict, Weaker, FirstPass, SecondPass}
 

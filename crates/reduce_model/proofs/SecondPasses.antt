@@ -1,21 +1,20 @@
 -- The second pass that goes on by one candidate, from the last to the first.
-use Rattle.std.proofs.Common.{◌≡◌, ◌≢◌, ◌↔◌, ◌⊎◌, ℕ, zero, suc, ◌+◌, ◌-◌, ◌<◌, ◌≤◌, inl, inr, List, [], ◌∷◌, ◌++◌, Bool, true, false, IsTrue, if◌then◌else◌, length, map, take, drop, get_or, set, refl, sym, ap, subst, ◌∙◌, arith, add-one, append_assoc, drop-cons, length-append, length-drop, get_or-set_same, get_or-set_other}
+use Rattle.std.proofs.Common.{◌≡◌, ◌≢◌, ℕ, suc, ◌+◌, ◌-◌, ◌<◌, ◌≤◌, inl, inr, List, [], ◌∷◌, ◌++◌, Bool, true, false, length, map, take, drop, get_or, set, refl, sym, ap, subst, ◌∙◌, arith, add-one, append_assoc, drop-cons, length-append, length-drop, get_or-set_same, get_or-set_other}
 use Rattle.std.specs.List.{All, AllByRecursion}
-use Rattle.std.proofs.lemmas.Bool.{cases_lt, cases_eq}
+use Rattle.std.proofs.lemmas.Bool.{cases_eq}
 use Rattle.std.proofs.lemmas.List.{drop-map, drop-set-lt, drop_all, get_or-map, length-map, length-set, length-take, length-take-le, map-set, take-append-drop, take-map}
 use Rattle.std.proofs.lemmas.List.Elements.{All-append, All-cons, All-drop, All-head, All-nil, All-tail, All-take}
 use Rattle.dfa_core.specs.Languages.{HasNoMember, IsLeastMember}
-use Rattle.dfa_core.specs.Traces.{IsTrace}
 use Rattle.template_core.specs.declared.constraint.Constraint.{Constraint}
 use Rattle.reduce_model.proofs.Determined.{Has, ImpliesWith, backward_second_pass, kept_same_from}
-use Rattle.reduce_model.proofs.FirstPasses.{before-has, before-lacks, implies-none, is-kept, left_before, length-marked, none-implies}
+use Rattle.reduce_model.proofs.FirstPasses.{before-has, before-lacks, is-kept, left_before, length-marked, none-implies}
 use Rattle.reduce_model.proofs.Lists.{all-append, phase-first, phase-narrow, tests-split}
 use Rattle.reduce_model.proofs.Marks.{IsBackward, anything}
 use Rattle.reduce_model.proofs.Writes.{fixed-at, map-set_same, take-ext, view_same}
-use Rattle.reduce_model.specs.Building.{AreNarrow, IsFirstOfWide, in_phase, tests}
+use Rattle.reduce_model.specs.Building.{IsFirstOfWide, in_phase, tests}
 use Rattle.reduce_model.specs.Deciding.{after, before, is_kept, is_left, marked, those}
 use Rattle.reduce_model.specs.Passes.{IsFirstPrefix, IsNarrowList, IsSecondPassed, before_second_pass}
-use Rattle.reduce_model.specs.Reduction.{Breaks, Implies, TellsSecondPass}
+use Rattle.reduce_model.specs.Reduction.{Breaks, TellsSecondPass}
 use Rattle.reduce_model.specs.declared.decision.Decision.{Decision}
 use Rattle.reduce_model.specs.declared.decision.Decision.TheVariants.{Kept, Conflict, Weaker, FirstPass, SecondPass}
 
@@ -131,9 +130,6 @@ module _ (n s : ℕ) (list : List Constraint) (old new : List Decision) (p : ℕ
         get_or-map is_kept new k Kept false inside ∙ (kept-is-left (get_or new k Kept) (h.fresh k (omega arith)) ∙ sym (get_or-map is_left new k Kept false inside)))
 
     -- the others that still stand
-    abbrev pub rest : List Constraint
-    rest = left_before p list new ++ marked (drop (suc p) (map is_kept new)) (drop (suc p) list)
-
     pub others : before is_kept p list new ++ after is_kept p list new ≡ left_before p list new ++ marked (drop (suc p) (map is_kept new)) (drop (suc p) list)
     others = ap (λ (l : List Bool). marked l (take p list) ++ marked (drop (suc p) (map is_kept new)) (drop (suc p) list)) front
 

@@ -9,7 +9,7 @@ use Rattle.dfa_core.specs.Traces.{IsTrace}
 use Rattle.dfa_minimise.specs.Wide.{IsWide}
 use Rattle.template_core.specs.declared.constraint.Constraint.{Constraint}
 use Rattle.reduce_model.proofs.Members.{least-same, over-wide, wide-over}
-use Rattle.reduce_model.specs.Joining.{AcceptsKept, Extends, IsTooWide, JoinsKept}
+use Rattle.reduce_model.specs.Joining.{AcceptsKept, IsTooWide, JoinsKept}
 use Rattle.reduce_model.specs.Keeping.{KeepsAll, KeepsOne, IsKeepable}
 use Rattle.reduce_model.specs.Sifting.{IsFirstWide, IsKeptAfter, IsSift, IsSifted, Sifting, kept_of}
 use Rattle.reduce_model.specs.declared.decision.Decision.{Decision}

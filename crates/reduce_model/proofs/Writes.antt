@@ -1,15 +1,14 @@
 -- Decisions that are written at a place, and marks of decisions.
-use Rattle.std.proofs.Common.{◌≡◌, ◌≢◌, ◌↔◌, ◌⊎◌, ℕ, zero, suc, ◌+◌, ◌<◌, ◌≤◌, inl, inr, List, [], ◌∷◌, ◌++◌, Bool, true, false, IsTrue, Some, length, map, take, drop, get_or, set, refl, sym, ap, ◌∙◌, arith, add-one, get_or-set_same, get_or-set_other}
-use Rattle.std.specs.List.{slice_get}
-use Rattle.std.proofs.lemmas.Bool.{cases_lt, cases_eq}
-use Rattle.std.proofs.lemmas.List.{append-nil, get_or-map, length-map, length-set, map-set, set-get_or, take_more_same}
-use Rattle.std.proofs.lemmas.Option.{get_or_from_slice_get, slice_get-get_or, slice_get_within}
+use Rattle.std.proofs.Common.{◌≡◌, ◌↔◌, ℕ, zero, suc, ◌<◌, ◌≤◌, inl, inr, List, [], ◌∷◌, ◌++◌, Bool, true, false, length, map, take, drop, get_or, set, refl, sym, ap, ◌∙◌, arith, add-one}
+use Rattle.std.proofs.lemmas.Bool.{cases_lt}
+use Rattle.std.proofs.lemmas.List.{get_or-map, map-set, set-get_or, take_more_same}
+use Rattle.std.proofs.lemmas.Option.{get_or_from_slice_get, slice_get_within}
 use Rattle.template_core.specs.declared.constraint.Constraint.{Constraint}
 use Rattle.reduce_model.proofs.Marks.{anything, at_place}
-use Rattle.reduce_model.specs.Deciding.{IsAt, is_consistent, marked}
-use Rattle.reduce_model.specs.Reduction.{IsAbove, IsFirstAbove, TellsWeaker}
+use Rattle.reduce_model.specs.Deciding.{is_consistent, marked}
+use Rattle.reduce_model.specs.Reduction.{IsFirstAbove, TellsWeaker}
 use Rattle.reduce_model.specs.declared.decision.Decision.{Decision}
-use Rattle.reduce_model.specs.declared.decision.Decision.TheVariants.{Kept, Conflict, Weaker, FirstPass, SecondPass}
+use Rattle.reduce_model.specs.declared.decision.Decision.TheVariants.{Kept, Weaker}
 
 module _ {B : Type 0} where
   -- a write that a view doesn't see

@@ -8,7 +8,7 @@ use Rattle.dfa_core.specs.Traces.{IsTrace}
 use Rattle.dfa_minimise.specs.Wide.{IsWide}
 use Rattle.template_core.specs.declared.constraint.Constraint.{Constraint}
 use Rattle.reduce_model.specs.Building.{AreNarrow, IsFirstOfWide, all_but_each, in_phase, tests, up_to_each}
-use Rattle.reduce_model.specs.Deciding.{is_consistent, is_kept, is_left, is_strongest, those}
+use Rattle.reduce_model.specs.Deciding.{is_left, is_strongest, those}
 use Rattle.reduce_model.specs.Keeping.{KeepsAll}
 use Rattle.reduce_model.specs.Reduction.{AreWitnesses, Breaks, IsReduction, TellsFirstPass, TellsSecondPass, TellsWeaker}
 use Rattle.reduce_model.specs.Sifting.{kept_of}

@@ -36,8 +36,15 @@ pub fn left_out_conflicts_or_is_implied()
         → HasNoMember n (KeepsAll (before is_consistent place list decisions ++ c ∷ [])) ⊎ Implies n (those is_kept list decisions) c }
 {}
 
-/// A list of candidates has one reduction at most, and none where it is refused for its states.
+/// A list of candidates can't be without the decisions of its reduction, and they are one list.
+pub fn decisions_are_determined()
+    ensures some { (n : ℕ) (list : List ConstraintOf) → ((decisions : List DecisionOf) → IsReduced n list decisions → ⊥) → ⊥ }
+    ensures one { (n : ℕ) (list : List ConstraintOf) (a b : List DecisionOf) → IsReduced n list a → IsReduced n list b → a ≡ b }
+{}
+
+/// A list of candidates has one reduction at most, and none where it is refused for its states. Two such refusals are the same.
 pub fn reduction_is_determined()
     ensures one { (n s : ℕ) (list : List ConstraintOf) (a b : Reduction) → IsReduction n s list a → IsReduction n s list b → a ≡ b }
     ensures not_both { (n s : ℕ) (list : List ConstraintOf) (a : Reduction) (phase built : ℕ) → IsReduction n s list a → RefusesReduction n s list (States phase built) → ⊥ }
+    ensures one_refusal { (n s : ℕ) (list : List ConstraintOf) (p q a b : ℕ) → RefusesReduction n s list (States p a) → RefusesReduction n s list (States q b) → (p ≡ q) × (a ≡ b) }
 {}

@@ -1,4 +1,4 @@
-//! Lists of constraints that keep only what the ones before don't rule out.
+//! Lists of constraints reduced: conflicts are removed, and what the others imply.
 #![tactic(auto)]
 
 mod conflicts;
@@ -16,8 +16,8 @@ mod witnesses;
 pub use conflicts::sift;
 pub use decision::{Decision, Reduced, Sifted};
 pub use laws::{
-    left_out_conflicts_or_is_implied, model_is_keepable, model_keeps_the_traces,
-    reduction_is_determined, witnesses_break_one_each,
+    decisions_are_determined, left_out_conflicts_or_is_implied, model_is_keepable,
+    model_keeps_the_traces, reduction_is_determined, witnesses_break_one_each,
 };
 pub use reduction::reduce;
 

@@ -1,7 +1,8 @@
 ghost use Rattle.std.specs.Bool.{OnTrue};
+ghost use Rattle.std.specs.Prelude.{◌≤◌, length, All, OnOk};
 ghost use Rattle.template_core.specs.Constraints.{IsWellMadeFor};
 
-use crate::{Decision, Sifted, sift};
+use crate::{Decision, Reduced, Sifted, reduce, sift};
 use decl_base::Refusal;
 use std::alloc::Global;
 use std::test::Fail;
@@ -33,13 +34,13 @@ fn is_well_made(constraint: &Constraint, symbols: u32) -> bool
         && (arity(constraint.kind) == 1) == same
 }
 
-// Sifts a list that is well made.
-fn sifted(
-    alloc: Global,
-    list: &[Constraint],
-    symbols: u32,
-    states: u64,
-) -> Result<Sifted, Refusal> {
+// Whether a list may be sifted and reduced.
+fn admitted(list: &[Constraint], symbols: u32, states: u64) -> Result<(), Refusal>
+    ensures made { OnOk result (All (IsWellMadeFor symbols) list.now) }
+    ensures few { OnOk result (length list.now ≤ 65536) }
+    ensures some_states { OnOk result (1 ≤ states) }
+    ensures few_states { OnOk result (states ≤ 65536) }
+{
     for constraint in list {
         if !is_well_made(constraint, symbols) {
             return Err(Refusal::NotJson);
@@ -48,7 +49,27 @@ fn sifted(
     if list.len() > 65_536 || states < 1 || states > 65_536 {
         return Err(Refusal::NotJson);
     }
+    Ok(())
+}
+
+fn sifted(
+    alloc: Global,
+    list: &[Constraint],
+    symbols: u32,
+    states: u64,
+) -> Result<Sifted, Refusal> {
+    admitted(list, symbols, states)?;
     sift(alloc, list, symbols, states)
+}
+
+fn reduced(
+    alloc: Global,
+    list: &[Constraint],
+    symbols: u32,
+    states: u64,
+) -> Result<Reduced, Refusal> {
+    admitted(list, symbols, states)?;
+    reduce(alloc, list, symbols, states)
 }
 
 #[test]
@@ -112,5 +133,132 @@ fn limit_is_exact(rt: HostRuntime) -> Result<(), Fail> {
         })
     );
     assert!(rt; sifted(alloc, &list, 16, 16_387).is_ok());
+    Ok(())
+}
+
+// Whether a list, each candidate with its decision, is reduced so, with these witnesses and this example.
+fn is_reduced_to(
+    alloc: Global,
+    rows: &[(Constraint, Decision)],
+    symbols: u32,
+    witnesses: &[&[u32]],
+    example: &[u32],
+) -> Result<bool, Refusal> {
+    let mut list = Vec::new(alloc);
+    for (constraint, _) in rows {
+        list.push(*constraint)?;
+    }
+    let reduced = reduced(alloc, &list, symbols, 16_384)?;
+    for (row, decision) in rows.iter().zip(reduced.decisions()) {
+        if row.1 != *decision {
+            return Ok(false);
+        }
+    }
+    for (wanted, witness) in witnesses.iter().zip(reduced.witnesses()) {
+        if *wanted != witness.events() {
+            return Ok(false);
+        }
+    }
+    Ok(
+        reduced.decisions().len() == rows.len()
+            && reduced.witnesses().len() == witnesses.len()
+            && reduced.example().events() == example,
+    )
+}
+
+// The candidates of the log of the trace 0, 1 twice, in their order.
+fn pair() -> [(Constraint, Decision); 20] {
+    [
+        (one(Kind::Init, 0), Decision::Kept),
+        (one(Kind::End, 1), Decision::Kept),
+        (one(Kind::Participation, 0), Decision::Weaker { by: 0 }),
+        (one(Kind::Participation, 1), Decision::Weaker { by: 1 }),
+        (one(Kind::AtMostOne, 0), Decision::Kept),
+        (one(Kind::AtMostOne, 1), Decision::Kept),
+        (two(Kind::ChainSuccession, 0, 1), Decision::FirstPass),
+        (
+            two(Kind::AlternateSuccession, 0, 1),
+            Decision::Weaker { by: 6 },
+        ),
+        (two(Kind::Succession, 0, 1), Decision::Weaker { by: 6 }),
+        (two(Kind::CoExistence, 0, 1), Decision::Weaker { by: 6 }),
+        (two(Kind::ChainResponse, 0, 1), Decision::Weaker { by: 6 }),
+        (
+            two(Kind::AlternateResponse, 0, 1),
+            Decision::Weaker { by: 6 },
+        ),
+        (two(Kind::Response, 0, 1), Decision::Weaker { by: 6 }),
+        (two(Kind::ChainPrecedence, 0, 1), Decision::Weaker { by: 6 }),
+        (
+            two(Kind::AlternatePrecedence, 0, 1),
+            Decision::Weaker { by: 6 },
+        ),
+        (two(Kind::Precedence, 0, 1), Decision::Weaker { by: 6 }),
+        (
+            two(Kind::RespondedExistence, 0, 1),
+            Decision::Weaker { by: 6 },
+        ),
+        (
+            two(Kind::RespondedExistence, 1, 0),
+            Decision::Weaker { by: 6 },
+        ),
+        (two(Kind::NotSuccession, 1, 0), Decision::FirstPass),
+        (
+            two(Kind::NotChainSuccession, 1, 0),
+            Decision::Weaker { by: 18 },
+        ),
+    ]
+}
+
+#[test]
+fn each_reason_is_told(rt: HostRuntime) -> Result<(), Fail> {
+    let witnesses: [&[u32]; 4] = [&[1], &[0], &[0, 0, 1], &[0, 1, 1]];
+    assert!(rt; is_reduced_to(rt.alloc(), &pair(), 2, &witnesses, &[0, 1])?);
+    // The log of the traces 0 and 1.
+    let apart = [
+        (one(Kind::AtMostOne, 0), Decision::Kept),
+        (one(Kind::AtMostOne, 1), Decision::SecondPass),
+        (two(Kind::NotCoExistence, 0, 1), Decision::Kept),
+        (two(Kind::NotSuccession, 0, 1), Decision::Weaker { by: 2 }),
+        (two(Kind::NotSuccession, 1, 0), Decision::Weaker { by: 2 }),
+        (
+            two(Kind::NotChainSuccession, 0, 1),
+            Decision::Weaker { by: 2 },
+        ),
+        (
+            two(Kind::NotChainSuccession, 1, 0),
+            Decision::Weaker { by: 2 },
+        ),
+        (one(Kind::Init, 0), Decision::Kept),
+        (one(Kind::Init, 1), Decision::Conflict),
+        (one(Kind::End, 0), Decision::FirstPass),
+        (one(Kind::End, 1), Decision::Conflict),
+        (one(Kind::Participation, 0), Decision::Weaker { by: 7 }),
+        (one(Kind::Participation, 1), Decision::Conflict),
+    ];
+    let witnesses: [&[u32]; 3] = [&[0, 0], &[0, 1], &[]];
+    assert!(rt; is_reduced_to(rt.alloc(), &apart, 2, &witnesses, &[0])?);
+    // The log of the trace 0.
+    let alone = [
+        (one(Kind::Init, 0), Decision::Kept),
+        (one(Kind::End, 0), Decision::FirstPass),
+        (one(Kind::Participation, 0), Decision::Weaker { by: 0 }),
+        (one(Kind::AtMostOne, 0), Decision::Kept),
+    ];
+    let witnesses: [&[u32]; 2] = [&[], &[0, 0]];
+    assert!(rt; is_reduced_to(rt.alloc(), &alone, 1, &witnesses, &[0])?);
+    Ok(())
+}
+
+#[test]
+fn tests_are_counted(rt: HostRuntime) -> Result<(), Fail> {
+    let mut list = Vec::new(rt.alloc());
+    for (constraint, _) in &pair() {
+        list.push(*constraint)?;
+    }
+    // Without the first constraint, the second and the third that stay tell five traces apart.
+    let refusal = reduced(rt.alloc(), &list, 2, 4).err();
+    assert_eq!(rt; refusal, Some(Refusal::States { phase: 3, built: 2 }));
+    assert!(rt; reduced(rt.alloc(), &list, 2, 5).is_ok());
     Ok(())
 }

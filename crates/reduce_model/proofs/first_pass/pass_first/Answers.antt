@@ -1,4 +1,4 @@
-use Rattle.std.proofs.Common.{get_or, refl, sym, ◌∙◌, arith}
+use Rattle.std.proofs.Common.{refl, sym, ◌∙◌, arith}
 use Rattle.reduce_model.proofs.FirstPasses.{passing-all, passing-implied, passing-left, passing-none, passing-on, passing-refused, passing-size}
 use Rattle.reduce_model.proofs.first_pass.pass_first.Goals as goal
 use Rattle.reduce_model.proofs.first_pass.pass_first.Goals.{then-is_kept+in_ok-try_candidate+in-Implied, then-is_kept+in_ok-try_candidate+in-Left, else-is_kept}

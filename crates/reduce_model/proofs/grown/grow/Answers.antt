@@ -1,4 +1,4 @@
-use Rattle.std.proofs.Common.{get_or, ap, ◌+◌, ℕ, arith}
+use Rattle.std.proofs.Common.{get_or, ap, ◌+◌, ℕ}
 use Rattle.std.proofs.lemmas.List.{take_all, take_more}
 use Rattle.reduce_model.proofs.Grows.{growing-all, growing-more, growing-wide}
 use Rattle.reduce_model.proofs.Marks.{anything}

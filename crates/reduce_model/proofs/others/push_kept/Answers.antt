@@ -1,5 +1,5 @@
-use Rattle.std.proofs.Common.{[], ◌∷◌, false, take, get_or, length, map, arith, sym, ◌∙◌, ap, append_assoc}
-use Rattle.std.proofs.lemmas.List.{get_or-map, length-map, take_all}
+use Rattle.std.proofs.Common.{[], ◌∷◌, false, take, get_or, map, arith, sym, ◌∙◌, append_assoc}
+use Rattle.std.proofs.lemmas.List.{get_or-map, length-map}
 use Rattle.reduce_model.specs.Deciding.{is_kept, marked}
 use Rattle.reduce_model.proofs.Marks.{anything}
 use Rattle.reduce_model.specs.declared.decision.Decision.TheVariants.{Kept}

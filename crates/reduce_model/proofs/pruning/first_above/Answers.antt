@@ -1,4 +1,4 @@
-use Rattle.std.proofs.Common.{get_or, refl, sym, ◌∙◌, below_more, arith}
+use Rattle.std.proofs.Common.{sym, ◌∙◌, below_more, arith}
 use Rattle.reduce_model.proofs.Prunes.{above-here, above-within, here-above}
 use Rattle.reduce_model.proofs.pruning.first_above.Goals as goal
 use Rattle.reduce_model.proofs.pruning.first_above.Goals.{else-is_consistent-via-then-is_consistent+else-stronger, else-is_consistent-via-else-is_consistent}

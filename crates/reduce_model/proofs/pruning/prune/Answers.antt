@@ -1,4 +1,4 @@
-use Rattle.std.proofs.Common.{get_or, sym, ◌∙◌}
+use Rattle.std.proofs.Common.{sym, ◌∙◌}
 use Rattle.reduce_model.proofs.Prunes.{pruning-all, pruning-conflict, pruning-none, pruning-strongest, pruning-weaker}
 use Rattle.reduce_model.proofs.pruning.prune.Goals as goal
 use Rattle.reduce_model.proofs.pruning.prune.Goals.{then-is_consistent+in-Some, then-is_consistent+in_default, else-is_consistent}

@@ -5,7 +5,7 @@ use Rattle.reduce_model.proofs.FirstPasses.{length-marked}
 use Rattle.reduce_model.proofs.Reduces.{irredundant-3, many-1, many-2, many-3, reduction, refused-2, refused-3, refused-4, sifted-fixed, sifted-many}
 use Rattle.reduce_model.proofs.SecondPasses.{all-marked}
 use Rattle.reduce_model.specs.Deciding.{is_kept, those}
-use Rattle.reduce_model.specs.Passes.{IsIrredundant, IsWitnessed, RefusesWitnesses}
+use Rattle.reduce_model.specs.Passes.{IsWitnessed, RefusesWitnesses}
 use Rattle.reduce_model.proofs.reduction.drop_implied.Goals as goal
 
 pub prune-requires-clause-as_many : goal.prune-requires-clause-as_many

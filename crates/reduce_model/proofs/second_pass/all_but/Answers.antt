@@ -1,4 +1,4 @@
-use Rattle.std.proofs.Common.{◌≡◌, ◌+◌, ◌++◌, suc, take, drop, map, List, Bool, refl, sym, ap, ◌∙◌, add-one}
+use Rattle.std.proofs.Common.{◌≡◌, ◌+◌, suc, take, drop, List, Bool, refl, sym, ap, add-one}
 use Rattle.std.proofs.lemmas.List.{drop-map, take-map, take_rest}
 use Rattle.reduce_model.specs.Deciding.{after, before, is_kept, marked, those}
 use Rattle.reduce_model.proofs.second_pass.all_but.Goals as goal

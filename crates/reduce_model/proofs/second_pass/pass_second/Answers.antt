@@ -1,4 +1,4 @@
-use Rattle.std.proofs.Common.{◌-◌, get_or, refl, sym, ◌∙◌, arith}
+use Rattle.std.proofs.Common.{◌-◌, refl, sym, ◌∙◌, arith}
 use Rattle.template_core.specs.Constraints.{IsWellMadeFor}
 use Rattle.reduce_model.proofs.SecondPasses.{all-others, back-end, back-found, back-missing, back-none, back-on, back-refused, back-step, back-within, length-others}
 use Rattle.reduce_model.proofs.second_pass.pass_second.Goals as goal

@@ -1,5 +1,5 @@
-use Rattle.std.proofs.Common.{get_or, refl, arith}
-use Rattle.reduce_model.proofs.Witnessing.{but-is, not-missing, witnessing-all, witnessing-more, witnessing-none, witnessing-refused}
+use Rattle.std.proofs.Common.{arith}
+use Rattle.reduce_model.proofs.Witnessing.{but-is, not-missing, witnessing-all, witnessing-more, witnessing-refused}
 use Rattle.reduce_model.proofs.witnesses.witnesses_of.Goals as goal
 
 pub unreachable-requires : goal.unreachable-requires

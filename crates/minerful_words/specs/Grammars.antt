@@ -51,8 +51,9 @@ order_as_of text =
 
 unfoldable pub stage_of : List ℕ → Option Stage
 stage_of text =
-    if bytes_eq text (codes "consistent") then Some stage.Consistent
-    else (if bytes_eq text (codes "scores") then Some stage.Scores else None)
+    if bytes_eq text (codes "model") then Some stage.Model
+    else (if bytes_eq text (codes "consistent") then Some stage.Consistent
+    else (if bytes_eq text (codes "scores") then Some stage.Scores else None))
 
 unfoldable pub out_of : List ℕ → Option Out
 out_of text = if bytes_eq text (codes "json") then Some out.Json else None

@@ -50,7 +50,7 @@ without_options command found = record {
   columns = default_columns;
   thresholds = default_thresholds;
   states = default_states;
-  stage = stage.Scores;
+  stage = stage.Model;
   out = out.Json;
 }
 

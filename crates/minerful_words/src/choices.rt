@@ -87,7 +87,7 @@ impl Settings {
                 interest: INTEREST,
             },
             states: STATES,
-            stage: Stage::Scores,
+            stage: Stage::Model,
             out: Out::Json,
         })
     }

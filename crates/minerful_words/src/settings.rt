@@ -26,7 +26,11 @@ pub enum Format {
 /// How far a log is mined.
 #[derive(Clone, Copy, Debug, PartialEq, Eq)]
 pub enum Stage {
+    /// The reduced model, with a witness for each constraint that stays.
+    Model,
+    /// The candidates with conflicts removed.
     Consistent,
+    /// All candidates with their scores.
     Scores,
 }
 
@@ -91,6 +95,7 @@ impl Stage {
         ensures { result ≡ stage_of text.now }
     {
         match text {
+            "model" => Some(Stage::Model),
             "consistent" => Some(Stage::Consistent),
             "scores" => Some(Stage::Scores),
             _ => None,

@@ -31,7 +31,7 @@ fn lines_that_are_refused(rt: HostRuntime) -> Result<(), Fail> {
         ("mine --max-states 0", 10),
         ("mine --max-states 65537", 10),
         ("mine --max-states +1", 10),
-        ("mine --stage model", 11),
+        ("mine --stage models", 11),
         ("mine --out table", 12),
     ];
     for (line, at) in lines {
@@ -61,6 +61,20 @@ fn values_that_are_given(rt: HostRuntime) -> Result<(), Fail> {
 }
 
 #[test]
+fn stages_by_their_names(rt: HostRuntime) -> Result<(), Fail> {
+    let lines = [
+        ("mine", Stage::Model),
+        ("mine --stage model", Stage::Model),
+        ("mine --stage consistent", Stage::Consistent),
+        ("mine --stage scores", Stage::Scores),
+    ];
+    for (line, stage) in lines {
+        assert_eq!(rt; read(rt.alloc(), line)?.stage, stage);
+    }
+    Ok(())
+}
+
+#[test]
 fn values_that_are_not_given(rt: HostRuntime) -> Result<(), Fail> {
     let settings = read(rt.alloc(), "kb -")?;
     assert_eq!(rt; settings.command, Command::Kb);
@@ -68,6 +82,7 @@ fn values_that_are_not_given(rt: HostRuntime) -> Result<(), Fail> {
     assert_eq!(rt; settings.log.text(), "-");
     assert_eq!(rt; settings.thresholds.support.millionths, 950_000);
     assert_eq!(rt; settings.states, 16_384);
+    assert_eq!(rt; settings.stage, Stage::Model);
     assert_eq!(rt;
         Settings::read(rt.alloc(), &[]).err(),
         Some(Refusal::Usage { at: 0 })

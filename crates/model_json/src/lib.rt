@@ -6,5 +6,5 @@ mod decisions;
 mod report;
 mod text;
 
-pub use report::{consistent_value, model_value, scores_value};
+pub use report::{consistent_value, report_value, scores_value};
 pub use text::text_of;

@@ -10,7 +10,7 @@ use crate::constraints::{scored_value, trace_value, witnessed_value};
 use crate::decisions::{dropped_values, staying};
 use decl_base::{Refusal, Trace};
 use event_log::Alphabet;
-use reduce_model::{Decision, Sifted};
+use reduce_model::{Reduced, Sifted};
 use scoring::Scored;
 use serde_json::{Value, json};
 use std::alloc::{AllocError, Global};
@@ -59,29 +59,27 @@ pub fn consistent_value(
 
 /// The report of the reduced candidates, over names in byte order: those that stay, each with its witness, those that
 /// are dropped, and the least trace that keeps all that stay.
-pub fn model_value(
+pub fn report_value(
     alloc: Global,
     names: &Alphabet,
     list: &[Scored],
-    decisions: &[Decision],
-    witnesses: &[Trace],
-    example: &Trace,
+    reduced: &Reduced,
     traces: u64,
     events: u64,
 ) -> Result<Value, Refusal>
     requires made { All (λ scored. IsWellMadeFor (length names.now.names) scored.constraint) list.now }
-    requires decisions { length decisions.now ≡ length list.now }
-    requires witnesses { length witnesses.now ≡ length (staying list.now decisions.now) }
-    requires witness { All (λ trace. All (λ rank. rank < length names.now.names) trace) witnesses.now }
-    requires example { All (λ rank. rank < length names.now.names) example.now }
+    requires decisions { length reduced.now.decisions ≡ length list.now }
+    requires witnesses { length reduced.now.witnesses ≡ length (staying list.now reduced.now.decisions) }
+    requires witness { All (λ trace. All (λ rank. rank < length names.now.names) trace) reduced.now.witnesses }
+    requires example { All (λ rank. rank < length names.now.names) reduced.now.example }
     ensures value { IfOk result (λ value. view value
-        ≡ model_report names.now.names list.now decisions.now witnesses.now example.now traces events) }
+        ≡ model_report names.now.names list.now reduced.now.decisions reduced.now.witnesses reduced.now.example traces events) }
     ensures cause { IfErr result (λ e. e ≡ Refusal.Memory) }
 {
-    let kept = staying(alloc, list, decisions)?;
-    let constraints = witnessed_values(alloc, names, &kept, witnesses)?;
-    let dropped = dropped_values(alloc, names, list, decisions)?;
-    let example = trace_value(alloc, names, example)?;
+    let kept = staying(alloc, list, reduced.decisions())?;
+    let constraints = witnessed_values(alloc, names, &kept, reduced.witnesses())?;
+    let dropped = dropped_values(alloc, names, list, reduced.decisions())?;
+    let example = trace_value(alloc, names, reduced.example())?;
     let tasks = task_values(alloc, names)?;
     let value = report_object(alloc, constraints, dropped, events, example, tasks, traces)?;
     Ok(value)

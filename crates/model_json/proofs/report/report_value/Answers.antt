@@ -3,9 +3,9 @@ use Rattle.std.specs.Prelude.{All}
 use Rattle.template_core.specs.Constraints.{IsWellMadeFor}
 use Rattle.scoring.specs.declared.scored.Scored.{Scored}
 use Rattle.model_json.proofs.Chosen.{All-staying}
-use Rattle.model_json.proofs.report.model_value.Goals as goal
+use Rattle.model_json.proofs.report.report_value.Goals as goal
 
 pub witnessed_values-requires-clause-made : goal.witnessed_values-requires-clause-made
 witnessed_values-requires-clause-made c =
     let made : Scored → Type 0 = λ s. IsWellMadeFor (length c.args.names.now.names) s.constraint in
-    subst (All made) (sym (c.deref.ensures.value ∙ c.in_ok-kept.ensures)) (All-staying made c.args.list.now c.args.decisions.now c.requires.made)
+    subst (All made) (sym (c.deref.ensures.value ∙ c.in_ok-kept.ensures)) (All-staying made c.args.list.now _ c.requires.made)

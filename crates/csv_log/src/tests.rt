@@ -1,4 +1,6 @@
 //! What no clause says.
+ghost use Rattle.event_log.specs.Within.{CanCount};
+
 use crate::{Columns, OrderAs, read_csv};
 use decl_base::{Limits, Name, Refusal};
 use event_log::Alphabet;
@@ -12,7 +14,9 @@ fn traces(
     order: Option<&str>,
     order_as: OrderAs,
     limits: &Limits,
-) -> Result<String, Refusal> {
+) -> Result<String, Refusal>
+    requires { CanCount limits.now }
+{
     let order = match order {
         Some(name) => Some(Name::of(alloc, name)?),
         None => None,

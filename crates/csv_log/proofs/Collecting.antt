@@ -7,7 +7,7 @@ use Rattle.std.proofs.lemmas.List.Elements.{All-head, All-tail, All-push, All-we
 use Rattle.decl_base.specs.declared.limits.Limits.{Limits}
 use Rattle.decl_base.specs.declared.refusal.Refusal.{Refusal}
 use Rattle.decl_base.specs.declared.refusal.Refusal.TheVariants as refusal
-use Rattle.event_log.specs.Logs.{place_of, has_name, with_name, first_seen}
+use Rattle.event_log.specs.Logs.{place_of, with_name, first_seen}
 use Rattle.event_log.proofs.Appearing.{first_seen-push, place-with_name, with_name-keeps, with_name-least, with_name-new}
 use Rattle.log_columns.specs.declared.OrderAs.{OrderAs}
 use Rattle.csv_log.specs.declared.collect.Collected.{Collected}

@@ -1,4 +1,4 @@
-//! Whole reports of constraints whose three scores are all 1, each list worked out by hand.
+//! Whole reports, each worked out by hand.
 use crate::tests::{CALM, run_with};
 use decl_base::Status;
 use std::alloc::Global;
@@ -125,6 +125,47 @@ fn forty_eight_are_candidates(rt: HostRuntime) -> Result<(), Fail> {
         let ran = run_with(rt.alloc(), words, CASES.as_bytes(), CALM)?;
         assert_eq!(rt; ran.status, Status::Done);
         assert_eq!(rt; ran.out.bytes(), want.as_str().as_bytes());
+    }
+    Ok(())
+}
+
+/// The model of the traces ab and ab.
+const OF_AB: &str =
+    "{\"constraints\":[{\"confidence\":[1,1],\"interest\":[1,1],\"parameters\":[[\"a\"]],\"support\":[1,1],\"template\":\"Init\",\"witness\":[\"b\"]},{\"confidence\":[1,1],\"interest\":[1,1],\"parameters\":[[\"b\"]],\"support\":[1,1],\"template\":\"End\",\"witness\":[\"a\"]},{\"confidence\":[1,1],\"interest\":[1,1],\"parameters\":[[\"a\"]],\"support\":[1,1],\"template\":\"AtMostOne\",\"witness\":[\"a\",\"a\",\"b\"]},{\"confidence\":[1,1],\"interest\":[1,1],\"parameters\":[[\"b\"]],\"support\":[1,1],\"template\":\"AtMostOne\",\"witness\":[\"a\",\"b\",\"b\"]}],\"dropped\":[{\"by\":{\"parameters\":[[\"a\"]],\"template\":\"Init\"},\"confidence\":[1,1],\"interest\":[1,1],\"parameters\":[[\"a\"]],\"support\":[1,1],\"template\":\"Participation\",\"why\":\"weaker\"},{\"by\":{\"parameters\":[[\"b\"]],\"template\":\"End\"},\"confidence\":[1,1],\"interest\":[1,1],\"parameters\":[[\"b\"]],\"support\":[1,1],\"template\":\"Participation\",\"why\":\"weaker\"},{\"confidence\":[1,1],\"interest\":[1,1],\"parameters\":[[\"a\"],[\"b\"]],\"support\":[1,1],\"template\":\"ChainSuccession\",\"why\":\"first-pass\"},{\"by\":{\"parameters\":[[\"a\"],[\"b\"]],\"template\":\"ChainSuccession\"},\"confidence\":[1,1],\"interest\":[1,1],\"parameters\":[[\"a\"],[\"b\"]],\"support\":[1,1],\"template\":\"AlternateSuccession\",\"why\":\"weaker\"},{\"by\":{\"parameters\":[[\"a\"],[\"b\"]],\"template\":\"ChainSuccession\"},\"confidence\":[1,1],\"interest\":[1,1],\"parameters\":[[\"a\"],[\"b\"]],\"support\":[1,1],\"template\":\"Succession\",\"why\":\"weaker\"},{\"by\":{\"parameters\":[[\"a\"],[\"b\"]],\"template\":\"ChainSuccession\"},\"confidence\":[1,1],\"interest\":[1,1],\"parameters\":[[\"a\"],[\"b\"]],\"support\":[1,1],\"template\":\"CoExistence\",\"why\":\"weaker\"},{\"by\":{\"parameters\":[[\"a\"],[\"b\"]],\"template\":\"ChainSuccession\"},\"confidence\":[1,1],\"interest\":[1,1],\"parameters\":[[\"a\"],[\"b\"]],\"support\":[1,1],\"template\":\"ChainResponse\",\"why\":\"weaker\"},{\"by\":{\"parameters\":[[\"a\"],[\"b\"]],\"template\":\"ChainSuccession\"},\"confidence\":[1,1],\"interest\":[1,1],\"parameters\":[[\"a\"],[\"b\"]],\"support\":[1,1],\"template\":\"AlternateResponse\",\"why\":\"weaker\"},{\"by\":{\"parameters\":[[\"a\"],[\"b\"]],\"template\":\"ChainSuccession\"},\"confidence\":[1,1],\"interest\":[1,1],\"parameters\":[[\"a\"],[\"b\"]],\"support\":[1,1],\"template\":\"Response\",\"why\":\"weaker\"},{\"by\":{\"parameters\":[[\"a\"],[\"b\"]],\"template\":\"ChainSuccession\"},\"confidence\":[1,1],\"interest\":[1,1],\"parameters\":[[\"a\"],[\"b\"]],\"support\":[1,1],\"template\":\"ChainPrecedence\",\"why\":\"weaker\"},{\"by\":{\"parameters\":[[\"a\"],[\"b\"]],\"template\":\"ChainSuccession\"},\"confidence\":[1,1],\"interest\":[1,1],\"parameters\":[[\"a\"],[\"b\"]],\"support\":[1,1],\"template\":\"AlternatePrecedence\",\"why\":\"weaker\"},{\"by\":{\"parameters\":[[\"a\"],[\"b\"]],\"template\":\"ChainSuccession\"},\"confidence\":[1,1],\"interest\":[1,1],\"parameters\":[[\"a\"],[\"b\"]],\"support\":[1,1],\"template\":\"Precedence\",\"why\":\"weaker\"},{\"by\":{\"parameters\":[[\"a\"],[\"b\"]],\"template\":\"ChainSuccession\"},\"confidence\":[1,1],\"interest\":[1,1],\"parameters\":[[\"a\"],[\"b\"]],\"support\":[1,1],\"template\":\"RespondedExistence\",\"why\":\"weaker\"},{\"by\":{\"parameters\":[[\"a\"],[\"b\"]],\"template\":\"ChainSuccession\"},\"confidence\":[1,1],\"interest\":[1,1],\"parameters\":[[\"b\"],[\"a\"]],\"support\":[1,1],\"template\":\"RespondedExistence\",\"why\":\"weaker\"},{\"confidence\":[1,1],\"interest\":[1,1],\"parameters\":[[\"b\"],[\"a\"]],\"support\":[1,1],\"template\":\"NotSuccession\",\"why\":\"first-pass\"},{\"by\":{\"parameters\":[[\"b\"],[\"a\"]],\"template\":\"NotSuccession\"},\"confidence\":[1,1],\"interest\":[1,1],\"parameters\":[[\"b\"],[\"a\"]],\"support\":[1,1],\"template\":\"NotChainSuccession\",\"why\":\"weaker\"}],\"events\":4,\"example\":[\"a\",\"b\"],\"tasks\":[\"a\",\"b\"],\"traces\":2}\n";
+
+/// The model of the traces a and b, at support 1/2.
+const OF_A_AND_B: &str =
+    "{\"constraints\":[{\"confidence\":[1,1],\"interest\":[1,2],\"parameters\":[[\"a\"]],\"support\":[1,1],\"template\":\"AtMostOne\",\"witness\":[\"a\",\"a\"]},{\"confidence\":[1,1],\"interest\":[1,2],\"parameters\":[[\"a\"],[\"b\"]],\"support\":[1,1],\"template\":\"NotCoExistence\",\"witness\":[\"a\",\"b\"]},{\"confidence\":[1,2],\"interest\":[1,4],\"parameters\":[[\"a\"]],\"support\":[1,2],\"template\":\"Init\",\"witness\":[]}],\"dropped\":[{\"confidence\":[1,1],\"interest\":[1,2],\"parameters\":[[\"b\"]],\"support\":[1,1],\"template\":\"AtMostOne\",\"why\":\"second-pass\"},{\"by\":{\"parameters\":[[\"a\"],[\"b\"]],\"template\":\"NotCoExistence\"},\"confidence\":[1,1],\"interest\":[1,2],\"parameters\":[[\"a\"],[\"b\"]],\"support\":[1,1],\"template\":\"NotSuccession\",\"why\":\"weaker\"},{\"by\":{\"parameters\":[[\"a\"],[\"b\"]],\"template\":\"NotCoExistence\"},\"confidence\":[1,1],\"interest\":[1,2],\"parameters\":[[\"b\"],[\"a\"]],\"support\":[1,1],\"template\":\"NotSuccession\",\"why\":\"weaker\"},{\"by\":{\"parameters\":[[\"a\"],[\"b\"]],\"template\":\"NotCoExistence\"},\"confidence\":[1,1],\"interest\":[1,2],\"parameters\":[[\"a\"],[\"b\"]],\"support\":[1,1],\"template\":\"NotChainSuccession\",\"why\":\"weaker\"},{\"by\":{\"parameters\":[[\"a\"],[\"b\"]],\"template\":\"NotCoExistence\"},\"confidence\":[1,1],\"interest\":[1,2],\"parameters\":[[\"b\"],[\"a\"]],\"support\":[1,1],\"template\":\"NotChainSuccession\",\"why\":\"weaker\"},{\"confidence\":[1,2],\"interest\":[1,4],\"parameters\":[[\"b\"]],\"support\":[1,2],\"template\":\"Init\",\"why\":\"conflict\"},{\"confidence\":[1,2],\"interest\":[1,4],\"parameters\":[[\"a\"]],\"support\":[1,2],\"template\":\"End\",\"why\":\"first-pass\"},{\"confidence\":[1,2],\"interest\":[1,4],\"parameters\":[[\"b\"]],\"support\":[1,2],\"template\":\"End\",\"why\":\"conflict\"},{\"by\":{\"parameters\":[[\"a\"]],\"template\":\"Init\"},\"confidence\":[1,2],\"interest\":[1,4],\"parameters\":[[\"a\"]],\"support\":[1,2],\"template\":\"Participation\",\"why\":\"weaker\"},{\"confidence\":[1,2],\"interest\":[1,4],\"parameters\":[[\"b\"]],\"support\":[1,2],\"template\":\"Participation\",\"why\":\"conflict\"}],\"events\":2,\"example\":[\"a\"],\"tasks\":[\"a\",\"b\"],\"traces\":2}\n";
+
+/// The model of the trace a.
+const OF_A: &str =
+    "{\"constraints\":[{\"confidence\":[1,1],\"interest\":[1,1],\"parameters\":[[\"a\"]],\"support\":[1,1],\"template\":\"Init\",\"witness\":[]},{\"confidence\":[1,1],\"interest\":[1,1],\"parameters\":[[\"a\"]],\"support\":[1,1],\"template\":\"AtMostOne\",\"witness\":[\"a\",\"a\"]}],\"dropped\":[{\"confidence\":[1,1],\"interest\":[1,1],\"parameters\":[[\"a\"]],\"support\":[1,1],\"template\":\"End\",\"why\":\"first-pass\"},{\"by\":{\"parameters\":[[\"a\"]],\"template\":\"Init\"},\"confidence\":[1,1],\"interest\":[1,1],\"parameters\":[[\"a\"]],\"support\":[1,1],\"template\":\"Participation\",\"why\":\"weaker\"}],\"events\":1,\"example\":[\"a\"],\"tasks\":[\"a\"],\"traces\":1}\n";
+
+/// The model of the trace é.
+const OF_E_ACUTE: &str =
+    "{\"constraints\":[{\"confidence\":[1,1],\"interest\":[1,1],\"parameters\":[[\"é\"]],\"support\":[1,1],\"template\":\"Init\",\"witness\":[]},{\"confidence\":[1,1],\"interest\":[1,1],\"parameters\":[[\"é\"]],\"support\":[1,1],\"template\":\"AtMostOne\",\"witness\":[\"é\",\"é\"]}],\"dropped\":[{\"confidence\":[1,1],\"interest\":[1,1],\"parameters\":[[\"é\"]],\"support\":[1,1],\"template\":\"End\",\"why\":\"first-pass\"},{\"by\":{\"parameters\":[[\"é\"]],\"template\":\"Init\"},\"confidence\":[1,1],\"interest\":[1,1],\"parameters\":[[\"é\"]],\"support\":[1,1],\"template\":\"Participation\",\"why\":\"weaker\"}],\"events\":1,\"example\":[\"é\"],\"tasks\":[\"é\"],\"traces\":1}\n";
+
+const LOOSE: &str = "mine --support 0.5 --confidence 0 --interest 0";
+
+const LOOSE_CSV: &str = "mine --support 0.5 --confidence 0 --interest 0 --format csv";
+
+#[test]
+fn models_are_printed(rt: HostRuntime) -> Result<(), Fail> {
+    let cases = [
+        ("mine", "ab\nab\n", OF_AB),
+        ("mine --stage model --max-states 5", "ab\nab\n", OF_AB),
+        ("mine", "ab\r\nab", OF_AB),
+        (LOOSE, "a\nb\n", OF_A_AND_B),
+        (LOOSE, "b\na\n", OF_A_AND_B),
+        (LOOSE_CSV, "case,activity\n1,a\n2,b\n", OF_A_AND_B),
+        ("mine", "a\n", OF_A),
+        ("mine", "é\n", OF_E_ACUTE),
+    ];
+    for (words, log, want) in cases {
+        let ran = run_with(rt.alloc(), words, log.as_bytes(), CALM)?;
+        assert_eq!(rt; ran.status, Status::Done);
+        assert_eq!(rt; ran.out.bytes(), want.as_bytes());
+        assert!(rt; ran.err.bytes().is_empty());
     }
     Ok(())
 }

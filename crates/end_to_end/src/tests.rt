@@ -69,12 +69,12 @@ fn reports_are_printed(rt: HostRuntime) -> Result<(), Fail> {
         (
             "mine",
             "",
-            "{\"constraints\":[],\"events\":0,\"tasks\":[],\"traces\":0}\n",
+            "{\"constraints\":[],\"dropped\":[],\"events\":0,\"example\":[],\"tasks\":[],\"traces\":0}\n",
         ),
         (
             "mine",
             "\n",
-            "{\"constraints\":[],\"events\":0,\"tasks\":[],\"traces\":1}\n",
+            "{\"constraints\":[],\"dropped\":[],\"events\":0,\"example\":[],\"tasks\":[],\"traces\":1}\n",
         ),
         (
             STRICT,
@@ -102,7 +102,7 @@ fn reports_are_printed(rt: HostRuntime) -> Result<(), Fail> {
             "traces 0\n occurrences       traces     repeated        first         last activity\n     without     no_later   no_earlier         next     previous    rep_later  rep_earlier     together pair\n",
         ),
         (
-            "mine --support 1 --confidence 1 --interest 1 --format csv",
+            "mine --stage scores --support 1 --confidence 1 --interest 1 --format csv",
             "case,activity\n1,a\n",
             "{\"constraints\":[{\"confidence\":[1,1],\"interest\":[1,1],\"parameters\":[[\"a\"]],\"support\":[1,1],\"template\":\"Init\"},{\"confidence\":[1,1],\"interest\":[1,1],\"parameters\":[[\"a\"]],\"support\":[1,1],\"template\":\"End\"},{\"confidence\":[1,1],\"interest\":[1,1],\"parameters\":[[\"a\"]],\"support\":[1,1],\"template\":\"Participation\"},{\"confidence\":[1,1],\"interest\":[1,1],\"parameters\":[[\"a\"]],\"support\":[1,1],\"template\":\"AtMostOne\"}],\"events\":1,\"tasks\":[\"a\"],\"traces\":1}\n",
         ),
@@ -118,7 +118,7 @@ fn reports_are_printed(rt: HostRuntime) -> Result<(), Fail> {
 
 #[test]
 fn refusals_are_told(rt: HostRuntime) -> Result<(), Fail> {
-    let cases: [(&str, &[u8], Status, &str); 11] = [
+    let cases: [(&str, &[u8], Status, &str); 13] = [
         ("", b"", Status::Usage, "minerful: usage, place 0\n"),
         (
             "mine --nosuch",
@@ -173,6 +173,18 @@ fn refusals_are_told(rt: HostRuntime) -> Result<(), Fail> {
             b"ab\nab\n",
             Status::Limit,
             "minerful: too many states, phase 1, constraints 2\n",
+        ),
+        (
+            "mine --max-states 4",
+            b"ab\nab\n",
+            Status::Limit,
+            "minerful: too many states, phase 3, constraints 2\n",
+        ),
+        (
+            "mine",
+            b"abcdefghijklmnop\n",
+            Status::Limit,
+            "minerful: too many states, phase 1, constraints 17\n",
         ),
         (
             "mine nosuch",

@@ -1,9 +1,13 @@
--- Logs of ranks with the same sums have the same scores and the same candidates.
-use Rattle.std.proofs.Common.{◌≡◌, ℕ, List, [], ◌∷◌, true, ◌||◌, cond, map, filter, length, count_by, nat_eq, refl, sym, ap, ap₂, ◌∙◌}
-use Rattle.std.specs.Prelude.{min}
+-- Logs of ranks with the same sums have the same scores, the same candidates, and the same counters.
+use Rattle.std.proofs.Common.{◌≡◌, ℕ, List, [], ◌∷◌, ◌++◌, true, ◌||◌, ◌&&◌, cond, map, filter, length, count_by, sum_by, nat_eq, refl, sym, ap, ap₂, ◌∙◌}
+use Rattle.std.specs.Prelude.{◌==◌, codes, decimal, min, nat_lt}
+use Rattle.std.specs.List.{flat_map, range_with_len}
+use Rattle.report_text.specs.Fields.{columns, quoted_at}
+use Rattle.report_text.specs.KbTable.{activity_heading, activity_line, activity_numbers, kb_text, pair_heading, pair_line, pair_lines, pair_numbers}
+use Rattle.template_core.specs.Counters.{occurrences, without, no_later, no_earlier, next, previous, rep_later, rep_earlier}
 use Rattle.decl_base.specs.declared.threshold.Thresholds.{Thresholds}
-use Rattle.template_core.specs.Counts.{traces_in, targets_in}
-use Rattle.template_core.specs.Events.{occurs}
+use Rattle.template_core.specs.Counts.{pair_counts, traces_in, targets_in, unary_counts}
+use Rattle.template_core.specs.Events.{is_first, is_last, occurs}
 use Rattle.template_core.specs.Groups.{activation_of, group_of, target_of}
 use Rattle.template_core.specs.Repertoire.{activated, fulfilled}
 use Rattle.template_core.specs.declared.constraint.Constraint.{Constraint}
@@ -20,6 +24,14 @@ use Rattle.minerful_core.proofs.SameSums.{SumAlike}
 map-same : {X Y : Type 0} (f g : X → Y) → ((x : X) → f x ≡ g x) → (xs : List X) → map f xs ≡ map g xs
 map-same f g same [] = refl
 map-same f g same (x ∷ xs) = ap₂ (λ y ys. y ∷ ys) (same x) (map-same f g same xs)
+
+flat_map-same : {X Y : Type 0} (f g : X → List Y) → ((x : X) → f x ≡ g x) → (xs : List X) → flat_map f xs ≡ flat_map g xs
+flat_map-same f g same [] = refl
+flat_map-same f g same (x ∷ xs) = ap₂ (λ y ys. y ++ ys) (same x) (flat_map-same f g same xs)
+
+-- the table of so many traces, with these lines of the activities and of the pairs
+abbrev table : ℕ → List ℕ → List ℕ → List ℕ
+table n activities pairs = codes "traces " ++ decimal n ++ codes "\n" ++ activity_heading ++ activities ++ pair_heading ++ pairs
 
 module _ (xs ys : List (List ℕ)) (h : SumAlike xs ys) where
   pub same_length : length xs ≡ length ys
@@ -54,3 +66,42 @@ module _ (xs ys : List (List ℕ)) (h : SumAlike xs ys) where
   unfolding candidates_of reaching
   same_candidates n thresholds =
       ap (λ list. in_order priority_cmp (filter (reaches_all thresholds) list)) (map-same (scored xs) (scored ys) same_scores (constraints_over n))
+
+  -- ---- the counters
+
+  same_unary : (a : ℕ) → unary_counts a xs ≡ unary_counts a ys
+  same_unary a =
+      let occurrences_ : sum_by (occurrences nat_eq a) xs ≡ sum_by (occurrences nat_eq a) ys = h (occurrences nat_eq a) in
+      let traces : count_by (occurs nat_eq a) xs ≡ count_by (occurs nat_eq a) ys = same_with a in
+      let repeated : count_by (λ trace. nat_lt 1 (occurrences nat_eq a trace)) xs ≡ count_by (λ trace. nat_lt 1 (occurrences nat_eq a trace)) ys = h _ in
+      let first : count_by (is_first nat_eq a) xs ≡ count_by (is_first nat_eq a) ys = h _ in
+      let last : count_by (is_last nat_eq a) xs ≡ count_by (is_last nat_eq a) ys = h _ in
+      cc (occurrences_, traces, repeated, first, last)
+
+  same_pair : (a b : ℕ) → pair_counts a b xs ≡ pair_counts a b ys
+  same_pair a b =
+      let alone : sum_by (without nat_eq a b) xs ≡ sum_by (without nat_eq a b) ys = h _ in
+      let later : sum_by (no_later nat_eq a b) xs ≡ sum_by (no_later nat_eq a b) ys = h _ in
+      let earlier : sum_by (no_earlier nat_eq a b) xs ≡ sum_by (no_earlier nat_eq a b) ys = h _ in
+      let following : sum_by (next nat_eq a b) xs ≡ sum_by (next nat_eq a b) ys = h _ in
+      let preceding : sum_by (previous nat_eq a b) xs ≡ sum_by (previous nat_eq a b) ys = h _ in
+      let repeated_later : sum_by (rep_later nat_eq a b) xs ≡ sum_by (rep_later nat_eq a b) ys = h _ in
+      let repeated_earlier : sum_by (rep_earlier nat_eq a b) xs ≡ sum_by (rep_earlier nat_eq a b) ys = h _ in
+      let both : count_by (λ trace. occurs nat_eq a trace && occurs nat_eq b trace) xs ≡ count_by (λ trace. occurs nat_eq a trace && occurs nat_eq b trace) ys = h _ in
+      cc (alone, later, earlier, following, preceding, repeated_later, repeated_earlier, both)
+
+  same_line : (names : List (List ℕ)) (a : ℕ) → activity_line names xs a ≡ activity_line names ys a
+  same_line names a = ap (λ c. columns (activity_numbers c) ++ quoted_at names a ++ 10 ∷ []) (same_unary a)
+
+  same_pair_lines : (names : List (List ℕ)) (a : ℕ) → pair_lines names xs a ≡ pair_lines names ys a
+  same_pair_lines names a =
+      flat_map-same (λ b. cond (a == b) [] (pair_line names xs a b)) (λ b. cond (a == b) [] (pair_line names ys a b))
+      (λ b. ap (λ c. cond (a == b) [] (columns (pair_numbers c) ++ quoted_at names a ++ 32 ∷ [] ++ quoted_at names b ++ 10 ∷ [])) (same_pair a b))
+      (range_with_len 0 (length names))
+
+  pub same_table : (names : List (List ℕ)) → kb_text names xs ≡ kb_text names ys
+  unfolding kb_text
+  same_table names =
+      ap (λ n. table n (flat_map (activity_line names xs) (range_with_len 0 (length names))) (flat_map (pair_lines names xs) (range_with_len 0 (length names)))) same_length
+      ∙ ap₂ (table (length ys)) (flat_map-same (activity_line names xs) (activity_line names ys) (same_line names) (range_with_len 0 (length names)))
+      (flat_map-same (pair_lines names xs) (pair_lines names ys) (same_pair_lines names) (range_with_len 0 (length names)))

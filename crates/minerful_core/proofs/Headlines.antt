@@ -1,0 +1,84 @@
+-- The headline follows from what the outcome is.
+use Rattle.std.proofs.Common.{◌≡◌, ℕ, List, Bool, true, false, Option, Result, Ok, Err, IfSome, All, length, refl, ap, subst, ◌∙◌}
+use Rattle.std.specs.Prelude.{MatchBool, IfOk, nat_lt, slice_index_or}
+use Rattle.std.specs.Io.KnownBytes.{append_known}
+use Rattle.std.proofs.lemmas.List.{length-map}
+use Rattle.decl_base.specs.Limits.{standard}
+use Rattle.decl_base.specs.Refusal.{status_of}
+use Rattle.decl_base.specs.declared.refusal.Refusal.{Refusal}
+use Rattle.decl_base.specs.declared.refusal.Refusal.TheVariants as refusal
+use Rattle.decl_base.specs.declared.status.Status.TheVariants as status
+use Rattle.decl_outside.specs.Sink.{SinkState}
+use Rattle.event_log.specs.Logs.{by_ranks, sorted_names}
+use Rattle.minerful_words.specs.declared.settings.Command.TheVariants.{Mine}
+use Rattle.minerful_words.specs.declared.settings.Settings.{Settings}
+use Rattle.minerful_words.specs.declared.settings.Stage.TheVariants.{Model}
+use Rattle.reduce_model.proofs.Consequences.{keepable, left_out, witnesses-break}
+use Rattle.reduce_model.proofs.Meaning.{same-traces}
+use Rattle.reduce_model.specs.Reduction.{IsReduction, Reduction}
+use Rattle.scoring.proofs.Members.{candidates_are}
+use Rattle.scoring.specs.Scores.{scored}
+use Rattle.template_core.specs.Constraints.{IsWellMadeFor}
+use Rattle.minerful_core.specs.Headline.{IsHeadline, MinesModel, PrintsModel}
+use Rattle.minerful_core.specs.Outcome.{answers, candidates_in, constraints_in, log_of, model_text, refuses, IsLogOutcome, IsModelOutcome, IsReadOutcome, IsSettingsOutcome, IsStageOutcome}
+use Rattle.minerful_core.specs.Run.{WritesOutput}
+use Rattle.minerful_core.proofs.Models.{constraints-staying}
+use Rattle.minerful_core.proofs.Refusing.{told}
+use Rattle.minerful_core.proofs.Reports.{at_any, candidates_in_made, made_constraints}
+
+exact : (s : Settings) (log : List (List (List ℕ))) → All (λ c. c ≡ scored (by_ranks log) c.constraint) (candidates_in s log)
+exact s log k d inside =
+    let c = slice_index_or (candidates_in s log) k d in
+    ((candidates_are (by_ranks log) (length (sorted_names log)) s.thresholds c).0 (k, inside, at_any (candidates_in s log) k d c inside)).scores
+
+-- the sentence holds of each reduction of the candidates
+headline : (s : Settings) (log : List (List (List ℕ))) (reduction : Reduction) → IsReduction (length (sorted_names log)) s.states (constraints_in (candidates_in s log)) reduction
+    → IsHeadline s log (candidates_in s log) reduction
+headline s log reduction h =
+    let n = length (sorted_names log) in
+    let list = candidates_in s log in
+    let cs = constraints_in list in
+    let made : All (IsWellMadeFor n) cs = made_constraints n list cs refl (candidates_in_made s log) in
+    record {
+      all = refl;
+      each = h.reduced.as_many ∙ length-map list (λ c. c.constraint);
+      listed = constraints-staying list reduction.decisions;
+      scores = exact s log;
+      same_traces = same-traces n cs reduction.decisions made h.reduced;
+      conflicts = h.reduced.conflicts;
+      some_trace = keepable n s.states cs reduction h;
+      witnesses = witnesses-break n s.states cs reduction h;
+      left_out = left_out n cs reduction.decisions made h.reduced;
+    }
+
+second : (b : Bool) (P Q : Type 0) → (P → ⊥) → MatchBool b P Q → Q
+second true P Q never h = absurd (never h)
+second false P Q never h = h
+
+module _ (text : List ℕ) (old new : SinkState) (held : new.held ≡ append_known old.held text) where
+  of_log : (s : Settings) (bytes : List ℕ) (log : List (List (List ℕ))) → s.stage ≡ Model → log_of s.format s.columns bytes ≡ Ok log → IsLogOutcome Mine s log (answers status.Done text) → PrintsModel s bytes old new
+  of_log s bytes log stage read is =
+      let list = candidates_in s log in
+      let staged = second (nat_lt standard.candidates (length list)) (answers status.Done text ≡ refuses (refusal.Candidates (length list))) (IsStageOutcome s.stage s.states list log (answers status.Done text)) (λ e. cc) is in
+      let told : IsModelOutcome s.states list log (answers status.Done text) = subst (λ stage. IsStageOutcome stage s.states list log (answers status.Done text)) stage staged in
+      let same : answers status.Done text ≡ answers status.Done (model_text list told.0 log) = told.2 in
+      let text_is : text ≡ model_text list told.0 log = cc in
+      (log, list, told.0, read, held ∙ ap (append_known old.held) text_is, headline s log told.0 told.1)
+
+  of_read : (s : Settings) (bytes : List ℕ) (read : Result (List (List (List ℕ))) Refusal) → MinesModel s → log_of s.format s.columns bytes ≡ read → IsReadOutcome s read (answers status.Done text) → PrintsModel s bytes old new
+  of_read s bytes (Err r) mines e is = absurd (cc)
+  of_read s bytes (Ok log) mines e is = of_log s bytes log mines.stage e (subst (λ command. IsLogOutcome command s log (answers status.Done text)) mines.command is)
+
+  of_words : (wanted : Result Settings ℕ) (contents : List ℕ → List ℕ) → IsSettingsOutcome wanted contents (answers status.Done text) → IfOk wanted (λ s. MinesModel s → PrintsModel s (contents s.log) old new)
+  of_words (Err at) contents is = tt
+  of_words (Ok s) contents is = λ mines. of_read s (contents s.log) (log_of s.format s.columns (contents s.log)) mines refl is
+
+-- where a run ends well, its text is that of its outcome
+pub headline_of : (wanted : Result Settings ℕ) (contents : Option (List ℕ → List ℕ)) (old new : SinkState)
+    → IfSome contents (λ contents. WritesOutput (IsSettingsOutcome wanted contents) status.Done old new) → IfSome contents (λ contents. IfOk wanted (λ s. MinesModel s → PrintsModel s (contents s.log) old new))
+headline_of wanted contents old new = told contents _ _ (λ c h. of_words h.0 old new h.2 wanted c h.1)
+
+-- a refusal has another status
+pub not_done : (r : Refusal) → status_of r ≡ status.Done → ⊥
+not_done refusal.Memory e = cc
+not_done r e = cc

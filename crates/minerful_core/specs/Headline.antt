@@ -1,0 +1,68 @@
+-- The sentence that the program stands for, of a log and of what `mine` prints of it at stage `model`.
+use Rattle.std.specs.Prelude.{◌≡◌, ◌↔◌, ◌⊎◌, ℕ, suc, List, [], ◌∷◌, ◌++◌, All, Some, Ok, length, take, drop, slice_get}
+use Rattle.std.specs.Io.KnownBytes.{append_known}
+use Rattle.decl_outside.specs.Sink.{SinkState}
+use Rattle.dfa_core.specs.Languages.{HasNoMember}
+use Rattle.dfa_core.specs.Traces.{IsTrace}
+use Rattle.event_log.specs.Logs.{by_ranks, sorted_names}
+use Rattle.minerful_words.specs.declared.settings.Command.TheVariants.{Mine}
+use Rattle.minerful_words.specs.declared.settings.Out.TheVariants.{Json}
+use Rattle.minerful_words.specs.declared.settings.Settings.{Settings}
+use Rattle.minerful_words.specs.declared.settings.Stage.TheVariants.{Model}
+use Rattle.model_json.specs.Report.{staying}
+use Rattle.reduce_model.specs.Deciding.{IsAt, before, is_consistent, is_kept, those}
+use Rattle.reduce_model.specs.Keeping.{IsKeepable, KeepsAll}
+use Rattle.reduce_model.specs.Reduction.{Breaks, Implies, Reduction}
+use Rattle.reduce_model.specs.declared.decision.Decision.{Decision}
+use Rattle.reduce_model.specs.declared.decision.Decision.TheVariants.{Kept, Conflict}
+use Rattle.scoring.specs.Scores.{scored}
+use Rattle.scoring.specs.declared.scored.Scored.{Scored}
+use Rattle.template_core.specs.declared.constraint.Constraint.{Constraint}
+use Rattle.minerful_core.specs.Outcome.{candidates_in, constraints_in, log_of, model_text}
+
+-- the settings ask for the reduced model of a log, as JSON
+pub record MinesModel (s : Settings) : Type 0 where
+  pub command : s.command ≡ Mine
+  pub stage : s.stage ≡ Model
+  pub out : s.out ≡ Json
+
+-- the number of activities of a log: a trace over them is a list of ranks below it
+abbrev pub activities_in : List (List (List ℕ)) → ℕ
+activities_in log = length (sorted_names log)
+
+-- of the candidates and what became of each: the model, and the conflict-free model
+abbrev pub model_of : List Scored → Reduction → List Constraint
+model_of list reduction = those is_kept (constraints_in list) reduction.decisions
+
+abbrev pub conflict_free_of : List Scored → Reduction → List Constraint
+conflict_free_of list reduction = those is_consistent (constraints_in list) reduction.decisions
+
+-- The report lists the model and drops the other candidates. Of these:
+pub record IsHeadline (s : Settings) (log : List (List (List ℕ))) (list : List Scored) (reduction : Reduction) : Type 0 where
+  -- each candidate of the log is listed or dropped, and the listed ones are the model
+  pub all : list ≡ candidates_in s log
+  pub each : length reduction.decisions ≡ length list
+  pub listed : constraints_in (staying list reduction.decisions) ≡ model_of list reduction
+  -- each has its exact scores by the finite-trace meaning
+  pub scores : All (λ c. c ≡ scored (by_ranks log) c.constraint) list
+  -- the model keeps exactly the traces of the conflict-free model
+  pub same_traces : (trace : List ℕ) → IsTrace (activities_in log) trace → KeepsAll (model_of list reduction) trace ↔ KeepsAll (conflict_free_of list reduction) trace
+  -- which lacks those candidates alone that no trace keeps together with the ones that it has before them
+  pub conflicts : (place : ℕ) (c : Constraint) (d : Decision) → IsAt (constraints_in list) reduction.decisions place c d
+      → d ≡ Conflict ↔ HasNoMember (activities_in log) (KeepsAll (before is_consistent place (constraints_in list) reduction.decisions ++ c ∷ []))
+  -- there is at least one such trace
+  pub some_trace : IsKeepable (activities_in log) (model_of list reduction)
+  -- beside each constraint of the model stands a trace that keeps all others and breaks it
+  pub witnesses : (place : ℕ) (c : Constraint) → slice_get (model_of list reduction) place ≡ Some c
+      → (trace : List ℕ) × (slice_get reduction.witnesses place ≡ Some trace) × IsTrace (activities_in log) trace
+      × Breaks (take place (model_of list reduction) ++ drop (suc place) (model_of list reduction)) c trace
+  -- every candidate left out conflicts with those kept before it, or is implied by those that stay
+  pub left_out : (place : ℕ) (c : Constraint) (d : Decision) → IsAt (constraints_in list) reduction.decisions place c d → (d ≡ Kept → ⊥)
+      → HasNoMember (activities_in log) (KeepsAll (before is_consistent place (constraints_in list) reduction.decisions ++ c ∷ []))
+      ⊎ Implies (activities_in log) (model_of list reduction) c
+
+-- there are the log of an input and a report that stands on the output more, of which the sentence holds
+abbrev pub PrintsModel : Settings → List ℕ → SinkState → SinkState → Type 0
+PrintsModel s bytes old new =
+    (log : List (List (List ℕ))) × (list : List Scored) × (reduction : Reduction) × (log_of s.format s.columns bytes ≡ Ok log)
+    × (new.held ≡ append_known old.held (model_text list reduction log)) × IsHeadline s log list reduction

@@ -1,6 +1,6 @@
 """Compares what the built program does with the definitions, computed the long way.
 
-    python3 checks/by_definition.py [--program PATH] [--logs N] [--seed N] [--model] [--no-limits] [--traces N]
+    python3 checks/by_definition.py [--program PATH] [--logs N] [--seed N] [--no-model] [--no-limits] [--traces N]
 
 For each run the definitions give its exit status, its standard output and its standard error, and each of the three
 is compared by itself. The definitions stand in checks/defined, once more and in Python: by places of traces, by counts
@@ -204,7 +204,7 @@ def options():
     words.add_argument("--program", default="crates/minerful/out/minerful")
     words.add_argument("--logs", type=int, default=100, help="so many rounds of random cases")
     words.add_argument("--seed", type=int, default=1)
-    words.add_argument("--model", action="store_true", help="the program has stage `model`, as the default")
+    words.add_argument("--no-model", dest="model", action="store_false", help="an older program: stage `scores` is the default, and there is no `model`")
     words.add_argument("--no-limits", dest="limits", action="store_false", help="leave out the large inputs")
     words.add_argument("--traces", type=int, default=10_000, help="at most so many traces are tried for one search")
     return words.parse_args()

@@ -53,7 +53,7 @@ class File:
         text = text_of(self.path)
         self.lines = text.count("\n")
         self.imports = imported(text)
-        self.paragraphs = text.split("\n\n")
+        self.paragraphs = paragraphs_of(text)
         for place, paragraph in enumerate(self.paragraphs):
             for names in DEFINED.findall(paragraph):
                 self.defines[names[0] or names[1]] = place
@@ -62,6 +62,17 @@ class File:
 
     def reached_lines(self):
         return sum(len(self.paragraphs[place].strip("\n").split("\n")) for place in self.reached)
+
+
+def paragraphs_of(text):
+    """The parts between empty lines. Fields of a record that stand behind an empty line belong to the record."""
+    found = []
+    for part in text.split("\n\n"):
+        if found and part.startswith(" ") and not DEFINED.search(part):
+            found[-1] += "\n\n" + part
+        else:
+            found.append(part)
+    return found
 
 
 def imported(text):

@@ -17,6 +17,22 @@ const ALL: &str = "mine --stage scores --support 0 --confidence 0 --interest 0";
 
 const HALF: &str = "mine --stage consistent --support 0.5 --confidence 0 --interest 0";
 
+const HALF_MODEL: &str = "mine --support 0.5 --confidence 0 --interest 0";
+
+const HALF_CSV: &str = "mine --format csv --support 0.5 --confidence 0 --interest 0";
+
+/// What is printed of one trace with one event.
+const ONE_EVENT: &str =
+    "{\"constraints\":[{\"confidence\":[1,1],\"interest\":[1,1],\"parameters\":[[\"a\"]],\"support\":[1,1],\"template\":\"Init\",\"witness\":[]},{\"confidence\":[1,1],\"interest\":[1,1],\"parameters\":[[\"a\"]],\"support\":[1,1],\"template\":\"AtMostOne\",\"witness\":[\"a\",\"a\"]}],\"dropped\":[{\"confidence\":[1,1],\"interest\":[1,1],\"parameters\":[[\"a\"]],\"support\":[1,1],\"template\":\"End\",\"why\":\"first-pass\"},{\"by\":{\"parameters\":[[\"a\"]],\"template\":\"Init\"},\"confidence\":[1,1],\"interest\":[1,1],\"parameters\":[[\"a\"]],\"support\":[1,1],\"template\":\"Participation\",\"why\":\"weaker\"}],\"events\":1,\"example\":[\"a\"],\"tasks\":[\"a\"],\"traces\":1}\n";
+
+/// Of a trace of two events that is there twice.
+const TWICE: &str =
+    "{\"constraints\":[{\"confidence\":[1,1],\"interest\":[1,1],\"parameters\":[[\"a\"]],\"support\":[1,1],\"template\":\"Init\",\"witness\":[\"b\"]},{\"confidence\":[1,1],\"interest\":[1,1],\"parameters\":[[\"b\"]],\"support\":[1,1],\"template\":\"End\",\"witness\":[\"a\"]},{\"confidence\":[1,1],\"interest\":[1,1],\"parameters\":[[\"a\"]],\"support\":[1,1],\"template\":\"AtMostOne\",\"witness\":[\"a\",\"a\",\"b\"]},{\"confidence\":[1,1],\"interest\":[1,1],\"parameters\":[[\"b\"]],\"support\":[1,1],\"template\":\"AtMostOne\",\"witness\":[\"a\",\"b\",\"b\"]}],\"dropped\":[{\"by\":{\"parameters\":[[\"a\"]],\"template\":\"Init\"},\"confidence\":[1,1],\"interest\":[1,1],\"parameters\":[[\"a\"]],\"support\":[1,1],\"template\":\"Participation\",\"why\":\"weaker\"},{\"by\":{\"parameters\":[[\"b\"]],\"template\":\"End\"},\"confidence\":[1,1],\"interest\":[1,1],\"parameters\":[[\"b\"]],\"support\":[1,1],\"template\":\"Participation\",\"why\":\"weaker\"},{\"confidence\":[1,1],\"interest\":[1,1],\"parameters\":[[\"a\"],[\"b\"]],\"support\":[1,1],\"template\":\"ChainSuccession\",\"why\":\"first-pass\"},{\"by\":{\"parameters\":[[\"a\"],[\"b\"]],\"template\":\"ChainSuccession\"},\"confidence\":[1,1],\"interest\":[1,1],\"parameters\":[[\"a\"],[\"b\"]],\"support\":[1,1],\"template\":\"AlternateSuccession\",\"why\":\"weaker\"},{\"by\":{\"parameters\":[[\"a\"],[\"b\"]],\"template\":\"ChainSuccession\"},\"confidence\":[1,1],\"interest\":[1,1],\"parameters\":[[\"a\"],[\"b\"]],\"support\":[1,1],\"template\":\"Succession\",\"why\":\"weaker\"},{\"by\":{\"parameters\":[[\"a\"],[\"b\"]],\"template\":\"ChainSuccession\"},\"confidence\":[1,1],\"interest\":[1,1],\"parameters\":[[\"a\"],[\"b\"]],\"support\":[1,1],\"template\":\"CoExistence\",\"why\":\"weaker\"},{\"by\":{\"parameters\":[[\"a\"],[\"b\"]],\"template\":\"ChainSuccession\"},\"confidence\":[1,1],\"interest\":[1,1],\"parameters\":[[\"a\"],[\"b\"]],\"support\":[1,1],\"template\":\"ChainResponse\",\"why\":\"weaker\"},{\"by\":{\"parameters\":[[\"a\"],[\"b\"]],\"template\":\"ChainSuccession\"},\"confidence\":[1,1],\"interest\":[1,1],\"parameters\":[[\"a\"],[\"b\"]],\"support\":[1,1],\"template\":\"AlternateResponse\",\"why\":\"weaker\"},{\"by\":{\"parameters\":[[\"a\"],[\"b\"]],\"template\":\"ChainSuccession\"},\"confidence\":[1,1],\"interest\":[1,1],\"parameters\":[[\"a\"],[\"b\"]],\"support\":[1,1],\"template\":\"Response\",\"why\":\"weaker\"},{\"by\":{\"parameters\":[[\"a\"],[\"b\"]],\"template\":\"ChainSuccession\"},\"confidence\":[1,1],\"interest\":[1,1],\"parameters\":[[\"a\"],[\"b\"]],\"support\":[1,1],\"template\":\"ChainPrecedence\",\"why\":\"weaker\"},{\"by\":{\"parameters\":[[\"a\"],[\"b\"]],\"template\":\"ChainSuccession\"},\"confidence\":[1,1],\"interest\":[1,1],\"parameters\":[[\"a\"],[\"b\"]],\"support\":[1,1],\"template\":\"AlternatePrecedence\",\"why\":\"weaker\"},{\"by\":{\"parameters\":[[\"a\"],[\"b\"]],\"template\":\"ChainSuccession\"},\"confidence\":[1,1],\"interest\":[1,1],\"parameters\":[[\"a\"],[\"b\"]],\"support\":[1,1],\"template\":\"Precedence\",\"why\":\"weaker\"},{\"by\":{\"parameters\":[[\"a\"],[\"b\"]],\"template\":\"ChainSuccession\"},\"confidence\":[1,1],\"interest\":[1,1],\"parameters\":[[\"a\"],[\"b\"]],\"support\":[1,1],\"template\":\"RespondedExistence\",\"why\":\"weaker\"},{\"by\":{\"parameters\":[[\"a\"],[\"b\"]],\"template\":\"ChainSuccession\"},\"confidence\":[1,1],\"interest\":[1,1],\"parameters\":[[\"b\"],[\"a\"]],\"support\":[1,1],\"template\":\"RespondedExistence\",\"why\":\"weaker\"},{\"confidence\":[1,1],\"interest\":[1,1],\"parameters\":[[\"b\"],[\"a\"]],\"support\":[1,1],\"template\":\"NotSuccession\",\"why\":\"first-pass\"},{\"by\":{\"parameters\":[[\"b\"],[\"a\"]],\"template\":\"NotSuccession\"},\"confidence\":[1,1],\"interest\":[1,1],\"parameters\":[[\"b\"],[\"a\"]],\"support\":[1,1],\"template\":\"NotChainSuccession\",\"why\":\"weaker\"}],\"events\":4,\"example\":[\"a\",\"b\"],\"tasks\":[\"a\",\"b\"],\"traces\":2}\n";
+
+/// Of two traces of one event each, at thresholds that both meet.
+const ONE_OF_TWO: &str =
+    "{\"constraints\":[{\"confidence\":[1,1],\"interest\":[1,2],\"parameters\":[[\"a\"]],\"support\":[1,1],\"template\":\"AtMostOne\",\"witness\":[\"a\",\"a\"]},{\"confidence\":[1,1],\"interest\":[1,2],\"parameters\":[[\"a\"],[\"b\"]],\"support\":[1,1],\"template\":\"NotCoExistence\",\"witness\":[\"a\",\"b\"]},{\"confidence\":[1,2],\"interest\":[1,4],\"parameters\":[[\"a\"]],\"support\":[1,2],\"template\":\"Init\",\"witness\":[]}],\"dropped\":[{\"confidence\":[1,1],\"interest\":[1,2],\"parameters\":[[\"b\"]],\"support\":[1,1],\"template\":\"AtMostOne\",\"why\":\"second-pass\"},{\"by\":{\"parameters\":[[\"a\"],[\"b\"]],\"template\":\"NotCoExistence\"},\"confidence\":[1,1],\"interest\":[1,2],\"parameters\":[[\"a\"],[\"b\"]],\"support\":[1,1],\"template\":\"NotSuccession\",\"why\":\"weaker\"},{\"by\":{\"parameters\":[[\"a\"],[\"b\"]],\"template\":\"NotCoExistence\"},\"confidence\":[1,1],\"interest\":[1,2],\"parameters\":[[\"b\"],[\"a\"]],\"support\":[1,1],\"template\":\"NotSuccession\",\"why\":\"weaker\"},{\"by\":{\"parameters\":[[\"a\"],[\"b\"]],\"template\":\"NotCoExistence\"},\"confidence\":[1,1],\"interest\":[1,2],\"parameters\":[[\"a\"],[\"b\"]],\"support\":[1,1],\"template\":\"NotChainSuccession\",\"why\":\"weaker\"},{\"by\":{\"parameters\":[[\"a\"],[\"b\"]],\"template\":\"NotCoExistence\"},\"confidence\":[1,1],\"interest\":[1,2],\"parameters\":[[\"b\"],[\"a\"]],\"support\":[1,1],\"template\":\"NotChainSuccession\",\"why\":\"weaker\"},{\"confidence\":[1,2],\"interest\":[1,4],\"parameters\":[[\"b\"]],\"support\":[1,2],\"template\":\"Init\",\"why\":\"conflict\"},{\"confidence\":[1,2],\"interest\":[1,4],\"parameters\":[[\"a\"]],\"support\":[1,2],\"template\":\"End\",\"why\":\"first-pass\"},{\"confidence\":[1,2],\"interest\":[1,4],\"parameters\":[[\"b\"]],\"support\":[1,2],\"template\":\"End\",\"why\":\"conflict\"},{\"by\":{\"parameters\":[[\"a\"]],\"template\":\"Init\"},\"confidence\":[1,2],\"interest\":[1,4],\"parameters\":[[\"a\"]],\"support\":[1,2],\"template\":\"Participation\",\"why\":\"weaker\"},{\"confidence\":[1,2],\"interest\":[1,4],\"parameters\":[[\"b\"]],\"support\":[1,2],\"template\":\"Participation\",\"why\":\"conflict\"}],\"events\":2,\"example\":[\"a\"],\"tasks\":[\"a\",\"b\"],\"traces\":2}\n";
+
 /// What a run gave.
 #[derive(Drop)]
 pub(crate) struct Ran {
@@ -69,12 +85,12 @@ fn reports_are_printed(rt: HostRuntime) -> Result<(), Fail> {
         (
             "mine",
             "",
-            "{\"constraints\":[],\"events\":0,\"tasks\":[],\"traces\":0}\n",
+            "{\"constraints\":[],\"dropped\":[],\"events\":0,\"example\":[],\"tasks\":[],\"traces\":0}\n",
         ),
         (
             "mine",
             "\n",
-            "{\"constraints\":[],\"events\":0,\"tasks\":[],\"traces\":1}\n",
+            "{\"constraints\":[],\"dropped\":[],\"events\":0,\"example\":[],\"tasks\":[],\"traces\":1}\n",
         ),
         (
             STRICT,
@@ -101,11 +117,17 @@ fn reports_are_printed(rt: HostRuntime) -> Result<(), Fail> {
             "",
             "traces 0\n occurrences       traces     repeated        first         last activity\n     without     no_later   no_earlier         next     previous    rep_later  rep_earlier     together pair\n",
         ),
+        ("mine", "a\n", ONE_EVENT),
         (
             "mine --support 1 --confidence 1 --interest 1 --format csv",
             "case,activity\n1,a\n",
-            "{\"constraints\":[{\"confidence\":[1,1],\"interest\":[1,1],\"parameters\":[[\"a\"]],\"support\":[1,1],\"template\":\"Init\"},{\"confidence\":[1,1],\"interest\":[1,1],\"parameters\":[[\"a\"]],\"support\":[1,1],\"template\":\"End\"},{\"confidence\":[1,1],\"interest\":[1,1],\"parameters\":[[\"a\"]],\"support\":[1,1],\"template\":\"Participation\"},{\"confidence\":[1,1],\"interest\":[1,1],\"parameters\":[[\"a\"]],\"support\":[1,1],\"template\":\"AtMostOne\"}],\"events\":1,\"tasks\":[\"a\"],\"traces\":1}\n",
+            ONE_EVENT,
         ),
+        ("mine", "ab\nab\n", TWICE),
+        ("mine --max-states 5", "ab\nab\n", TWICE),
+        (HALF_MODEL, "a\nb\n", ONE_OF_TWO),
+        (HALF_MODEL, "b\na\n", ONE_OF_TWO),
+        (HALF_CSV, "case,activity\n1,a\n2,b\n", ONE_OF_TWO),
     ];
     for (words, bytes, want) in cases {
         let ran = run_with(rt.alloc(), words, bytes.as_bytes(), CALM)?;
@@ -118,7 +140,7 @@ fn reports_are_printed(rt: HostRuntime) -> Result<(), Fail> {
 
 #[test]
 fn refusals_are_told(rt: HostRuntime) -> Result<(), Fail> {
-    let cases: [(&str, &[u8], Status, &str); 11] = [
+    let cases: [(&str, &[u8], Status, &str); 12] = [
         ("", b"", Status::Usage, "minerful: usage, place 0\n"),
         (
             "mine --nosuch",
@@ -173,6 +195,12 @@ fn refusals_are_told(rt: HostRuntime) -> Result<(), Fail> {
             b"ab\nab\n",
             Status::Limit,
             "minerful: too many states, phase 1, constraints 2\n",
+        ),
+        (
+            "mine --max-states 4",
+            b"ab\nab\n",
+            Status::Limit,
+            "minerful: too many states, phase 3, constraints 2\n",
         ),
         (
             "mine nosuch",

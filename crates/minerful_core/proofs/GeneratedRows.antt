@@ -1,5 +1,5 @@
 -- The definition of a generated log, computed by hand on small rows.
-use Rattle.std.proofs.Common.{◌≡◌, [], ◌∷◌, List, ℕ, refl}
+use Rattle.std.proofs.Common.{◌≡◌, [], ◌∷◌, refl}
 use Rattle.minerful_core.specs.Generator.{first_state, generated_text, traces_drawn, letters_after, state_after}
 
 -- the first states of seed 0

@@ -67,3 +67,15 @@ line_of_trace trace = map byte_of trace ++ 10 ∷ []
 -- the traces that a seed gives, as the lines of a string log
 unfoldable pub generated_text : ℕ → ℕ → ℕ → ℕ → List ℕ
 generated_text seed traces length letters = flat_map line_of_trace (generated seed traces length letters)
+
+-- a letter as the name of an event
+abbrev pub name_of_letter : ℕ → List ℕ
+name_of_letter letter = byte_of letter ∷ []
+
+-- these traces of letters as a log
+abbrev pub log_of_letters : List (List ℕ) → List (List (List ℕ))
+log_of_letters traces = map (map name_of_letter) traces
+
+-- the log that a seed gives
+abbrev pub generated_log : ℕ → ℕ → ℕ → ℕ → List (List (List ℕ))
+generated_log seed traces length letters = log_of_letters (generated seed traces length letters)

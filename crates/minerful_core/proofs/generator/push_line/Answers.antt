@@ -1,6 +1,6 @@
 use Rattle.std.proofs.Common.{◌≡◌, ◌+◌, ◌-◌, ◌≤◌, ◌++◌, [], ◌∷◌, refl, sym, ap, ◌∙◌, arith, map, append_assoc}
 use Rattle.std.proofs.lemmas.Nat.{mod_below}
-use Rattle.minerful_core.specs.Generator.{byte_of, letters_after, state_after, letter_after}
+use Rattle.minerful_core.specs.Generator.{byte_of, letters_after, letter_after}
 use Rattle.minerful_core.proofs.Generating.{letters_after-next, letters_after-all, state_after-next, state_after-all, state_behind-is, line_drawn}
 use Rattle.minerful_core.proofs.generator.push_line.Goals as goal
 

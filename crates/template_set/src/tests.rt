@@ -1,7 +1,7 @@
 ghost use Rattle.std.specs.Prelude.{◌<◌};
 ghost use Rattle.template_core.specs.Tables.{IsTable};
 
-use crate::{arity, kind_of, kinds, name, stronger, table_of};
+use crate::{arity, keeps, kind_of, kinds, name, place_activated, place_holds, stronger, table_of};
 use template_core::{Class, Constraint, Kind, Table};
 
 /// Whether the table accepts the word whose classes are the digits of a number to the base three, from the least one on.
@@ -88,29 +88,23 @@ fn names_and_arities(rt: HostRuntime) {
     }
 }
 
+fn over(kind: Kind, first: u32, second: u32) -> Constraint {
+    Constraint {
+        kind,
+        first,
+        second,
+    }
+}
+
 /// How many constraints over 0 and 1, and how many over 1 and 0, the hierarchy puts below one over 0 and 1.
 fn below(kind: Kind) -> (u32, u32) {
-    let above = Constraint {
-        kind,
-        first: 0,
-        second: 1,
-    };
+    let above = over(kind, 0, 1);
     let mut counts: (u32, u32) = (0, 0);
     for kind in kinds() {
-        let onward = Constraint {
-            kind,
-            first: 0,
-            second: 1,
-        };
-        let back = Constraint {
-            kind,
-            first: 1,
-            second: 0,
-        };
-        if stronger(&above, &onward) {
+        if stronger(&above, &over(kind, 0, 1)) {
             counts.0 = counts.0.wrapping_add(1);
         }
-        if stronger(&above, &back) {
+        if stronger(&above, &over(kind, 1, 0)) {
             counts.1 = counts.1.wrapping_add(1);
         }
     }
@@ -139,4 +133,47 @@ fn how_many_stand_below(rt: HostRuntime) {
     ] {
         assert_eq!(rt; below(kind), counts, "{kind:?}");
     }
+}
+
+/// Which places of the trace 0 1 0 are activated, and which hold: its three events, and the whole trace.
+#[test]
+fn places_of_a_trace(rt: HostRuntime) {
+    let trace = [0, 1, 0];
+    for (constraint, activated, holding) in [
+        (
+            over(Kind::Response, 0, 1),
+            [true, false, true, false],
+            [true, true, false, true],
+        ),
+        (
+            over(Kind::Precedence, 0, 1),
+            [false, true, false, false],
+            [true, true, true, true],
+        ),
+        (
+            over(Kind::Init, 0, 0),
+            [false, false, false, true],
+            [true, true, true, true],
+        ),
+        (
+            over(Kind::AtMostOne, 0, 0),
+            [false, false, false, true],
+            [true, true, true, false],
+        ),
+    ] {
+        for place in 0..4 {
+            assert_eq!(rt;
+                place_activated(&constraint, &trace, place),
+                activated[place],
+                "{constraint:?} at {place}"
+            );
+            assert_eq!(rt;
+                place_holds(&constraint, &trace, place),
+                holding[place],
+                "{constraint:?} at {place}"
+            );
+        }
+    }
+    assert!(rt; !keeps(&over(Kind::Response, 0, 1), &trace));
+    assert!(rt; keeps(&over(Kind::Precedence, 0, 1), &trace));
 }

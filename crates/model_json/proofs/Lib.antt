@@ -7,5 +7,6 @@ pub mod ItemsRead
 pub mod KnownModels
 mod ModelRows
 pub mod ModelsWithin
+pub mod ReadBack
 pub mod Values
 mod WholeReport

@@ -1,4 +1,4 @@
-use Rattle.std.proofs.Common.{◌≡◌, ◌∙◌, Bool, true, false, Some, None, Err, refl, sym, ap, cond}
+use Rattle.std.proofs.Common.{◌≡◌, ◌∙◌, Bool, true, false, true≢false, Some, None, Err, refl, sym, ap, cond}
 use Rattle.std.specs.Option.{ok_or}
 use Rattle.std.specs.Prelude.{IsUtf8}
 use Rattle.std.specs.Str.{is_utf8}
@@ -20,5 +20,5 @@ returns-else-is_memory-clause-refusal c = go (is_utf8 c.args.bytes.now) refl
     go : (b : Bool) → is_utf8 c.args.bytes.now ≡ b → json_of c.args.bytes.now ≡ Err NotJson
     go true e =
         ap (λ b. ok_or (cond b (read c.args.bytes.now) None) NotJson) e
-        ∙ ap (λ o. ok_or o NotJson) (c.in-Err.ensures.err (λ memory. absurd (c.if-is_memory.ensures.1 memory)) (IsUtf8-from_is_utf8 c.args.bytes.now e))
+        ∙ ap (λ o. ok_or o NotJson) (c.in-Err.ensures.err (λ memory. true≢false (sym (c.if-is_memory.ensures.1 memory))) (IsUtf8-from_is_utf8 c.args.bytes.now e))
     go false e = ap (λ b. ok_or (cond b (read c.args.bytes.now) None) NotJson) e

@@ -4,8 +4,9 @@ use Rattle.std.specs.Prelude.{All, slice_get, slice_index_or, unwrap_or}
 use Rattle.std.specs.List.{zip}
 use Rattle.std.specs.Str.{bytes_eq}
 use Rattle.std.specs.Cmp.Lexicographic.{bytes_decides}
+use Rattle.std.proofs.lemmas.Bool.{eq-eqb}
 use Rattle.std.proofs.lemmas.List.{length-map}
-use Rattle.std.proofs.lemmas.List.Elements.{All-head, All-tail}
+use Rattle.std.proofs.lemmas.List.Elements.{All-nil, All-cons, All-head, All-tail}
 use Rattle.std.proofs.lemmas.Option.{unwrap_or-slice_get}
 use Rattle.serde_json.specs.Data.{Data, Items, string, array, object}
 use Rattle.serde_json.specs.Find.{as_str, get}
@@ -21,9 +22,12 @@ use Rattle.template_core.specs.declared.constraint.Constraint.{Constraint}
 use Rattle.template_core.specs.declared.kind.Kind.{Kind}
 use Rattle.template_set.specs.Names.{name_of}
 use Rattle.scoring.specs.declared.scored.Scored.{Scored}
-use Rattle.model_json.specs.Model.{Item, Known, IsModel, IsListed, StandOnce, activities, activities_in, each, has_version, is_twice, item_of, item_read, items_read, list_in, listed, model_of, only, put_in, shape_of, tasks_in, texts_in, values_of, within}
-use Rattle.model_json.specs.Report.{activities_of, name_at, parameter_value, parameters_value, scored_value, witnessed_value}
+use Rattle.reduce_model.specs.Sifting.{Sifting}
+use Rattle.reduce_model.specs.declared.decision.Decision.{Decision}
+use Rattle.model_json.specs.Model.{Item, Known, Shape, IsModel, IsListed, StandOnce, activities, activities_in, each, has_version, is_twice, item_of, item_read, items_read, list_in, listed, model_of, only, put_in, shape_of, tasks_in, texts_in, values_of, within}
+use Rattle.model_json.specs.Report.{activities_of, consistent_report, model_report, name_at, parameter_value, scored_value, scores_report, staying, witnessed_value}
 use Rattle.model_json.proofs.Causes.{goes_on}
+use Rattle.model_json.proofs.Chosen.{All-zip}
 use Rattle.model_json.proofs.Elements.{values_of-items_of}
 use Rattle.model_json.proofs.ItemsRead.{fold-activities, is_twice-activities, named-some, one_or_two, put_in-activities, read-constraint, within-few}
 use Rattle.model_json.proofs.KnownModels.{model-items}
@@ -32,11 +36,12 @@ use Rattle.model_json.proofs.KnownModels.{model-items}
 
 front_place : (front more : List (List ℕ)) (name : List ℕ) → has_name front name ≡ true → place_of (front ++ more) name < length front
 front_place [] more name h = absurd (true≢false (sym h))
-front_place (x ∷ front) more name h = go (bytes_eq name x) refl h
+front_place (x ∷ front) more name h = go (bytes_eq name x) (front_place front more name) h
   where
-    go : (b : Bool) → bytes_eq name x ≡ b → (b || has_name front name) ≡ true → cond (not b) (1 + place_of (front ++ more) name) 0 < suc (length front)
-    go true e k = omega arith
-    go false e k = omega (arith, front_place front more name k)
+    go : (b : Bool) → (has_name front name ≡ true → place_of (front ++ more) name < length front) → (b || has_name front name) ≡ true
+        → cond (not b) (1 + place_of (front ++ more) name) 0 < suc (length front)
+    go true later k = omega arith
+    go false later k = omega (arith, later k)
 
 get_behind : (front more : List (List ℕ)) (x : List ℕ) → slice_index_or (front ++ x ∷ more) (length front) [] ≡ x
 get_behind [] more x = refl
@@ -88,7 +93,7 @@ module _ (names : List (List ℕ)) where
       ∙ ap Some (put_is c)
     where
       same_number : (n : ℕ) → eqb n n ≡ true
-      same_number n = ?
+      same_number n = eq-eqb n n refl
 
   at_rank : (rank : ℕ) → name_at names rank ≡ slice_index_or names rank []
   at_rank rank = unwrap_or-slice_get names rank []
@@ -186,3 +191,69 @@ items_back value scored names once few is number before (x ∷ xs) made =
     goes_on _ _ ((scored x).constraint, names) (item_back names once few (scored x).constraint (All-head (λ x. IsWellMadeFor (length names) (scored x).constraint) x xs made) number (value x) (is x))
     ∙ items_back value scored names once few is (number + 1) (before ++ (scored x).constraint ∷ []) xs (All-tail (λ x. IsWellMadeFor (length names) (scored x).constraint) x xs made)
     ∙ ap (λ l. Ok (record { names = names; constraints = l })) (append_assoc before ((scored x).constraint ∷ []) (map (λ x. (scored x).constraint) xs))
+
+-- ---- reports
+
+each-tasks : (names : List (List ℕ)) → each as_str (values_of (items_of (map string names))) ≡ Some names
+each-tasks [] = refl
+each-tasks (name ∷ names) = ap (option_map (λ ys. name ∷ ys)) (each-tasks names)
+
+abbrev shape : List Data → List (List ℕ) → Shape
+shape constraints tasks = record { constraints = constraints; tasks = tasks }
+
+-- the shape of a value whose members are these lists
+shaped : (value : Data) (constraints : List Data) (names : List (List ℕ)) → get (codes "constraints") value ≡ Some (array (items_of constraints))
+    → get (codes "tasks") value ≡ Some (array (items_of (map string names))) → has_version value ≡ true → shape_of value ≡ Some (shape constraints names)
+shaped value constraints names has_constraints has_tasks versioned =
+    ap (option_and_then (λ constraints. option_and_then (λ tasks. cond (has_version value) (Some (shape constraints tasks)) None) (tasks_in value)))
+    (ap (option_and_then list_in) has_constraints ∙ ap Some (values_of-items_of constraints))
+    ∙ ap (option_and_then (λ tasks. cond (has_version value) (Some (shape constraints tasks)) None))
+    (ap (λ o. unwrap_or (option_map texts_in o) (Some [])) has_tasks ∙ each-tasks names)
+    ∙ ap (λ b. cond b (Some (shape constraints names)) None) versioned
+
+-- what is well made without its scores is so with them
+with_scores : (n : ℕ) (list : List Scored) → All (IsWellMadeFor n) (map unscored list) → All (λ s. IsWellMadeFor n s.constraint) list
+with_scores n [] made = All-nil (λ (s : Scored). IsWellMadeFor n s.constraint)
+with_scores n (s ∷ list) made =
+    All-cons (λ (s : Scored). IsWellMadeFor n s.constraint) s list (All-head (IsWellMadeFor n) s.constraint (map unscored list) made)
+    (with_scores n list (All-tail (IsWellMadeFor n) s.constraint (map unscored list) made))
+
+-- a value that lists items for these constraints, and these names, is read as they
+report_back : {X : Type 0} (report : Data) (value : X → Data) (scored : X → Scored) (names : List (List ℕ)) (xs : List X) (list : List Scored)
+    → ((x : X) → item_of (value x) ≡ Some (record { template = name_of (scored x).constraint.kind; parameters = map (λ rank. name_at names rank ∷ []) (activities_of (scored x).constraint) }))
+    → map (λ x. (scored x).constraint) xs ≡ map unscored list → All (λ x. IsWellMadeFor (length names) (scored x).constraint) xs → IsListed names list
+    → shape_of report ≡ Some (shape (map value xs) names) → model_of report ≡ Ok (listed names list)
+report_back report value scored names xs list is same made known shape_is =
+    let few : length (map value xs) ≤ standard.candidates =
+    omega (arith, length-map xs value, length-map xs (λ x. (scored x).constraint), ap length same, known.few_constraints) in
+    model-items report (shape (map value xs) names) shape_is few names (ap within (first_seen-own names known.once) ∙ within-few names known.few_names)
+    ∙ items_back value scored names known.once known.few_names is 1 [] xs made ∙ ap (λ l. Ok (record { names = names; constraints = l })) same
+
+-- with as many witnesses, the constraints are the same
+beside : (list : List Scored) (witnesses : List (List ℕ)) → length witnesses ≡ length list → map (λ (p : Scored × List ℕ). p.0.constraint) (zip list witnesses) ≡ map unscored list
+beside [] witnesses h = refl
+beside (s ∷ list) [] h = absurd (omega (arith, h))
+beside (s ∷ list) (w ∷ witnesses) h = ap (λ l. s.constraint ∷ l) (beside list witnesses (omega (arith, h)))
+
+pub scores_back : (names : List (List ℕ)) (list : List Scored) (traces events : ℕ) → IsListed names list → model_of (scores_report names list traces events) ≡ Ok (listed names list)
+scores_back names list traces events known =
+    report_back (scores_report names list traces events) (scored_value names) (λ s. s) names list list (scored_item names) refl (with_scores (length names) list known.made) known
+    (shaped (scores_report names list traces events) (map (scored_value names) list) names refl refl refl)
+
+pub consistent_back : (names : List (List ℕ)) (list : List Scored) (sifting : Sifting) (traces events : ℕ) → IsListed names (staying list sifting.decisions)
+    → model_of (consistent_report names list sifting traces events) ≡ Ok (listed names (staying list sifting.decisions))
+consistent_back names list sifting traces events known =
+    let kept = staying list sifting.decisions in
+    report_back (consistent_report names list sifting traces events) (scored_value names) (λ s. s) names kept kept (scored_item names) refl (with_scores (length names) kept known.made) known
+    (shaped (consistent_report names list sifting traces events) (map (scored_value names) kept) names refl refl refl)
+
+pub model_back : (names : List (List ℕ)) (list : List Scored) (decisions : List Decision) (witnesses : List (List ℕ)) (example : List ℕ) (traces events : ℕ)
+    → IsListed names (staying list decisions) → length witnesses ≡ length (staying list decisions)
+    → model_of (model_report names list decisions witnesses example traces events) ≡ Ok (listed names (staying list decisions))
+model_back names list decisions witnesses example traces events known many =
+    let kept = staying list decisions in
+    let value : Scored × List ℕ → Data = λ p. witnessed_value names p.0 p.1 in
+    report_back (model_report names list decisions witnesses example traces events) value (λ p. p.0) names (zip kept witnesses) kept
+    (λ p. witnessed_item names p.0 p.1) (beside kept witnesses many)
+    (All-zip (λ s. IsWellMadeFor (length names) s.constraint) kept witnesses (with_scores (length names) kept known.made)) known
+    (shaped (model_report names list decisions witnesses example traces events) (map value (zip kept witnesses)) names refl refl refl)

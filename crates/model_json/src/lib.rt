@@ -6,5 +6,7 @@ mod decisions;
 mod report;
 mod text;
 
+pub use constraints::trace_value;
+pub use decisions::staying;
 pub use report::{consistent_value, report_value, scores_value};
 pub use text::text_of;

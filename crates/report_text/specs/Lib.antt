@@ -1,2 +1,4 @@
 pub mod Fields
 pub mod KbTable
+pub mod ModelTable
+pub mod Summary

@@ -1,6 +1,8 @@
 -- Names that appear one after another: each that is new goes last.
-use Rattle.std.proofs.Common.{◌≡◌, ℕ, suc, ◌+◌, ◌<◌, ◌≤◌, List, [], ◌∷◌, ◌++◌, Bool, true, false, cond, eqb, not, ◌||◌, fold, length, refl, sym, ap, ◌∙◌, arith, append-nil, append_assoc, true≢false, ⊎_elim}
+use Rattle.std.proofs.Common.{◌≡◌, ℕ, zero, suc, String, string_bytes, ◌+◌, ◌<◌, ◌≤◌, List, [], ◌∷◌, ◌++◌, Bool, true, false, cond, eqb, not, ◌||◌, fold, length, refl, sym, ap, ◌∙◌, arith, append-nil, append_assoc, true≢false, ⊎_elim}
 use Rattle.std.specs.Prelude.{slice_index_or}
+use Rattle.std.specs.declared.alloc.Global.{Global}
+use Rattle.std.specs.List.{AllByRecursion, IsDistinct}
 use Rattle.std.proofs.lemmas.Bool.{cases_lt, eqb-true, ne_eqb}
 use Rattle.std.proofs.lemmas.List.{get_or_append_left, length_push}
 use Rattle.std.proofs.lemmas.List.Folds.{list_any_at, position_or_len_push}
@@ -8,6 +10,7 @@ use Rattle.std.proofs.lemmas.List.Sums.{fold_push, passes_at_first}
 use Rattle.std.specs.Cmp.Lexicographic.{bytes_decides}
 use Rattle.std.specs.Str.{bytes_eq}
 use Rattle.event_log.specs.Logs.{events_of, first_seen, has_name, place_of, with_name}
+use Rattle.event_log.proofs.Naming.{texts}
 
 pub events_of-append : {A : Type 0} (front more : List (List A)) → events_of (front ++ more) ≡ events_of front ++ events_of more
 events_of-append [] more = refl
@@ -143,3 +146,32 @@ first_seen-once names = once-seen [] names (λ place inside. absurd (omega arith
 -- two places of such names with one name are one
 pub one_place : (names : List (List ℕ)) (i j : ℕ) → StandOnce names → i < length names → j < length names → slice_index_or names i [] ≡ slice_index_or names j [] → i ≡ j
 one_place names i j once in_i in_j same = sym (once i in_i) ∙ ap (place_of names) same ∙ once j in_j
+
+-- ---- different strings
+
+two_ways : (x y : List ℕ) → bytes_eq x y ≡ false → bytes_eq y x ≡ false
+two_ways x y apart = go (bytes_eq y x) refl
+  where
+    go : (b : Bool) → bytes_eq y x ≡ b → bytes_eq y x ≡ false
+    go true e = absurd (true≢false (sym ((bytes_decides x y).1 (sym ((bytes_decides y x).0 e))) ∙ apart))
+    go false e = e
+
+apart_at : (key : String Global) (keys : List (String Global)) (id : ℕ) → AllByRecursion (λ k. bytes_eq (string_bytes key) (string_bytes k) ≡ false) keys → id < length (texts keys)
+    → bytes_eq (slice_index_or (texts keys) id []) (string_bytes key) ≡ false
+apart_at key [] id apart inside = absurd (omega arith)
+apart_at key (k ∷ keys) zero apart inside = two_ways (string_bytes key) (string_bytes k) apart.0
+apart_at key (k ∷ keys) (suc id) apart inside = apart_at key keys id apart.1 (omega arith)
+
+distinct-at : (keys : List (String Global)) → IsDistinct (λ a b. bytes_eq (string_bytes a) (string_bytes b)) keys → (id : ℕ) → id < length (texts keys)
+    → place_of (texts keys) (slice_index_or (texts keys) id []) ≡ id
+unfolding IsDistinct
+distinct-at [] distinct id inside = absurd (omega arith)
+distinct-at (key ∷ keys) distinct zero inside =
+    ap (λ b. cond (not b) (1 + place_of (texts keys) (string_bytes key)) 0) ((bytes_decides (string_bytes key) (string_bytes key)).1 refl)
+distinct-at (key ∷ keys) distinct (suc id) inside =
+    ap (λ b. cond (not b) (1 + place_of (texts keys) (slice_index_or (texts keys) id [])) 0) (apart_at key keys id distinct.0 (omega arith))
+    ∙ omega (arith, distinct-at keys distinct.1 id (omega arith))
+
+-- the bytes of strings that differ stand once
+pub distinct-once : (keys : List (String Global)) → IsDistinct (λ a b. bytes_eq (string_bytes a) (string_bytes b)) keys → StandOnce (texts keys)
+distinct-once keys distinct = distinct-at keys distinct

@@ -1,3 +1,4 @@
+pub mod CheckTable
 pub mod Fields
 pub mod KbTable
 pub mod ModelTable

@@ -89,11 +89,7 @@ pub(crate) fn put_constraint(
 }
 
 /// The names of a constraint, joined by commas.
-fn put_names(
-    out: &mut Vec<u8>,
-    texts: &[String],
-    constraint: &Constraint,
-) -> Result<(), AllocError>
+fn put_names(out: &mut Vec<u8>, texts: &[String], constraint: &Constraint) -> Result<(), AllocError>
     requires { IsWellMadeFor (length texts.now) constraint.now }
     ensures { OnOk result ((names : List (List ℕ)) → map string_bytes texts.now ≡ map quoted names
         → out.new.items ≡ out.old.items ++ join_with_byte 44 (map (quoted_at names) (activities_of constraint.now))) }

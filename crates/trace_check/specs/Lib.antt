@@ -1,0 +1,2 @@
+-- Meaning: what a check of a log says of each constraint.
+pub mod Checking

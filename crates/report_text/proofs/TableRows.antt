@@ -1,4 +1,4 @@
--- Small tables, computed.
+-- Small tables and a summary, computed.
 use Rattle.std.proofs.Common.{◌≡◌, [], ◌∷◌, ◌++◌, codes, refl, None, Some}
 use Rattle.serde_json.proofs.OnLiterals.{serde_json_on_literals}
 use Rattle.std.specs.Fmt.{digits}
@@ -9,6 +9,7 @@ use Rattle.scoring.specs.declared.scored.Scored.{Scored}
 use Rattle.reduce_model.specs.declared.decision.Decision.TheVariants.{Kept, Weaker, FirstPass}
 use Rattle.report_text.specs.CheckTable.{check_table_text}
 use Rattle.report_text.specs.ModelTable.{model_table_text, consistent_table_text}
+use Rattle.report_text.specs.Summary.{summary_of}
 
 abbrev whole : Fraction
 whole = record { num = 1; den = 1 }
@@ -38,3 +39,8 @@ unbroken : check_table_text (codes "z" ∷ codes "a" ∷ []) (record { kind = Re
     ≡ codes " activated  fulfilled       kept      trace      place constraint\n         0          0          1          -          - Response(\"z\",\"a\")\n"
 unfolding serde_json_on_literals digits
 unbroken = refl
+
+summary : summary_of 7 1 1 1 (Kept ∷ FirstPass ∷ Weaker 0 ∷ Kept ∷ [])
+    ≡ codes "seed 7\ntraces 1\nevents 1\ntasks 1\ncandidates 4\nlisted 2\nconflict 0\nweaker 1\nfirst-pass 1\nsecond-pass 0\n"
+unfolding digits
+summary = refl

@@ -133,3 +133,48 @@ fn put_witness(
     out.push(b'\n')?;
     Ok(())
 }
+
+#[cfg(test)]
+mod tests {
+    ghost use Rattle.std.specs.Prelude.{◌≡◌};
+    ghost use Rattle.template_core.specs.Constraints.{arity, IsWellMadeFor};
+
+    use super::*;
+    use std::test::Fail;
+    use template_core::{Constraint, Kind};
+
+    fn of_one(kind: Kind) -> Scored
+        requires { arity kind ≡ 1 }
+        ensures { IsWellMadeFor 1 result.constraint }
+    {
+        let whole = Frac::new(1, 1);
+        Scored {
+            constraint: Constraint {
+                kind,
+                first: 0,
+                second: 0,
+            },
+            support: whole,
+            confidence: whole,
+            interest: whole,
+        }
+    }
+
+    /// The constraints that are listed for the log of one trace of one event.
+    #[test]
+    fn one_event(rt: HostRuntime) -> Result<(), Fail> {
+        let mut names = Alphabet::new(rt.alloc(), 1_000);
+        names.add("a")?;
+        let list = [of_one(Kind::Init), of_one(Kind::AtMostOne)];
+        let witnesses = [Trace::of(rt.alloc(), &[])?, Trace::of(rt.alloc(), &[0, 0])?];
+        let text = witnessed_table(rt.alloc(), &names, &list, &witnesses)?;
+        let expected =
+            "     support   confidence     interest constraint\n         1/1          1/1          1/1 Init(\"a\") []\n         1/1          1/1          1/1 AtMostOne(\"a\") [\"a\",\"a\"]\n";
+        assert_eq!(rt; text.as_slice(), expected.as_bytes());
+        let text = scores_table(rt.alloc(), &names, &list)?;
+        let expected =
+            "     support   confidence     interest constraint\n         1/1          1/1          1/1 Init(\"a\")\n         1/1          1/1          1/1 AtMostOne(\"a\")\n";
+        assert_eq!(rt; text.as_slice(), expected.as_bytes());
+        Ok(())
+    }
+}

@@ -1,7 +1,7 @@
 ghost use Rattle.std.specs.Prelude.{◌≡◌, ◌<◌, ◌++◌, ◌∷◌, [], List, ℕ, map, string_bytes, length, All, IfOk, IfErr, OnOk};
 ghost use Rattle.std.specs.List.{zip};
 ghost use Rattle.serde_json.specs.Written.{compact_text};
-ghost use Rattle.template_core.specs.Constraints.{IsWellMadeFor};
+ghost use Rattle.template_core.specs.Constraints.{arity, IsWellMadeFor};
 ghost use Rattle.model_json.specs.Report.{staying, trace_value};
 ghost use Rattle.report_text.specs.Fields.{quoted, column};
 ghost use Rattle.report_text.specs.ModelTable.{score_text, scored_text, scores_table_text, consistent_table_text, witnessed_table_text, model_table_text};
@@ -136,9 +136,6 @@ fn put_witness(
 
 #[cfg(test)]
 mod tests {
-    ghost use Rattle.std.specs.Prelude.{◌≡◌};
-    ghost use Rattle.template_core.specs.Constraints.{arity, IsWellMadeFor};
-
     use super::*;
     use std::test::Fail;
     use template_core::{Constraint, Kind};

@@ -1,5 +1,4 @@
 ghost use Rattle.std.specs.Prelude.{◌≡◌, ◌++◌, IfOk, IfErr, OnOk};
-ghost use Rattle.template_core.specs.Constraints.{arity, IsWellMadeFor};
 ghost use Rattle.report_text.specs.Summary.{outcome, count_with, number_line, outcome_line, summary_of};
 
 use crate::fields::put_number;
@@ -74,40 +73,4 @@ fn put_line(out: &mut Vec<u8>, word: &str, number: u64) -> Result<(), AllocError
     put_number(out, number)?;
     out.push(b'\n')?;
     Ok(())
-}
-
-#[cfg(test)]
-mod tests {
-    use super::*;
-    use reduce_model::reduce;
-    use std::test::Fail;
-    use template_core::{Constraint, Kind};
-
-    fn of_one(kind: Kind) -> Constraint
-        requires { arity kind ≡ 1 }
-        ensures { IsWellMadeFor 1 result }
-    {
-        Constraint {
-            kind,
-            first: 0,
-            second: 0,
-        }
-    }
-
-    /// The candidates of the log of one trace of one event.
-    #[test]
-    fn one_event(rt: HostRuntime) -> Result<(), Fail> {
-        let list = [
-            of_one(Kind::Init),
-            of_one(Kind::End),
-            of_one(Kind::Participation),
-            of_one(Kind::AtMostOne),
-        ];
-        let reduced = reduce(rt.alloc(), &list, 1, 100)?;
-        let text = summary_text(rt.alloc(), 7, 1, 1, 1, &reduced)?;
-        let expected =
-            "seed 7\ntraces 1\nevents 1\ntasks 1\ncandidates 4\nlisted 2\nconflict 0\nweaker 1\nfirst-pass 1\nsecond-pass 0\n";
-        assert_eq!(rt; text.as_slice(), expected.as_bytes());
-        Ok(())
-    }
 }

@@ -13,6 +13,7 @@ mod shapes;
 mod tests;
 mod text;
 
+pub use constraints::trace_value;
 pub use decisions::staying;
 pub use known::KnownModel;
 pub use laws::{

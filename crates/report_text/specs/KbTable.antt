@@ -20,11 +20,11 @@ pair_numbers c = c.without ∷ c.no_later ∷ c.no_earlier ∷ c.next ∷ c.prev
 
 -- the line of an activity: its five counters and its name
 abbrev pub activity_line : List (List ℕ) → List (List ℕ) → ℕ → List ℕ
-activity_line names log a = columns (activity_numbers (unary_counts a log)) ++ quoted_at names a ++ 10 ∷ []
+activity_line names log a = columns 12 (activity_numbers (unary_counts a log)) ++ quoted_at names a ++ 10 ∷ []
 
 -- the line of an ordered pair of activities: its eight counters and the two names
 abbrev pub pair_line : List (List ℕ) → List (List ℕ) → ℕ → ℕ → List ℕ
-pair_line names log a b = columns (pair_numbers (pair_counts a b log)) ++ quoted_at names a ++ 32 ∷ [] ++ quoted_at names b ++ 10 ∷ []
+pair_line names log a b = columns 12 (pair_numbers (pair_counts a b log)) ++ quoted_at names a ++ 32 ∷ [] ++ quoted_at names b ++ 10 ∷ []
 
 -- the lines of the pairs of an activity with each other one
 abbrev pub pair_lines : List (List ℕ) → List (List ℕ) → ℕ → List ℕ

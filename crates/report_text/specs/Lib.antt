@@ -1,2 +1,5 @@
+pub mod CheckTable
 pub mod Fields
 pub mod KbTable
+pub mod ModelTable
+pub mod Summary

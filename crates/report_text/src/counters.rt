@@ -11,6 +11,9 @@ use event_log::Alphabet;
 use interplay_kb::{Kb, RankedKb};
 use std::alloc::{AllocError, Global};
 
+/// The width of a number's column.
+const WIDTH: usize = 12;
+
 const ACTIVITY_HEADING: &str =
     " occurrences       traces     repeated        first         last activity\n";
 
@@ -77,7 +80,7 @@ fn put_activity(
         counts.first,
         counts.last,
     ];
-    put_columns(out, &numbers)?;
+    put_columns(out, WIDTH, &numbers)?;
     out.extend_from_slice(texts[rank].as_bytes())?;
     out.push(b'\n')?;
     Ok(())
@@ -143,7 +146,7 @@ fn put_pair(
         counts.rep_earlier,
         counts.together,
     ];
-    put_columns(out, &numbers)?;
+    put_columns(out, WIDTH, &numbers)?;
     out.extend_from_slice(texts[first].as_bytes())?;
     out.push(b' ')?;
     out.extend_from_slice(texts[second].as_bytes())?;

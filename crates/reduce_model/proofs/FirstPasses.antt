@@ -1,5 +1,5 @@
 -- The first pass that goes on by one candidate.
-use Rattle.std.proofs.Common.{◌≡◌, ◌≢◌, ◌↔◌, ℕ, zero, suc, ◌+◌, ◌<◌, ◌≤◌, inl, inr, List, [], ◌∷◌, ◌++◌, Bool, true, false, length, map, take, drop, get_or, set, refl, sym, ap, ◌∙◌, arith, nat_eq, add-one, drop-cons, get_or-set_same, get_or-set_other}
+use Rattle.std.proofs.Common.{◌≡◌, ◌≢◌, ◌↔◌, ℕ, zero, suc, ◌+◌, ◌<◌, ◌≤◌, inl, inr, List, [], ◌∷◌, ◌++◌, Bool, true, false, length, map, take, drop, get_or, set, refl, sym, ap, ◌∙◌, arith, add-one, drop-cons, get_or-set_same, get_or-set_other}
 use Rattle.std.proofs.lemmas.Bool.{cases_lt, cases_eq}
 use Rattle.std.proofs.lemmas.List.{append-nil, get_or-map, length-map, length-set, length_push, map-set, take_all, take-append-le, take-set-le}
 use Rattle.dfa_core.specs.Automaton.{Automaton, Accepts, IsEverything, state_count}
@@ -7,12 +7,10 @@ use Rattle.dfa_core.specs.Languages.{HasNoMember}
 use Rattle.dfa_core.specs.Traces.{IsTrace}
 use Rattle.dfa_minimise.specs.Wide.{IsWide}
 use Rattle.template_core.specs.declared.constraint.Constraint.{Constraint}
-use Rattle.template_core.proofs.KeepsTest.{Keeps-keeps}
-use Rattle.template_core.specs.Repertoire.{keeps}
 use Rattle.reduce_model.proofs.Determined.{Has, first_pass_forward, forward_first_pass, left_same_below}
 use Rattle.reduce_model.proofs.Lists.{phase-narrow, up-first, up-narrow}
 use Rattle.reduce_model.proofs.Marks.{IsForward, anything, true_or_false}
-use Rattle.reduce_model.proofs.Members.{over-wide, wide-over}
+use Rattle.reduce_model.proofs.Members.{keeps-stable, over-wide, wide-over}
 use Rattle.reduce_model.proofs.Sifts.{empty-narrow, keeps-push, length-take_le, push-keeps}
 use Rattle.reduce_model.proofs.Writes.{fixed-at, fixed-fixed, map-set_same, marked-next, marked-split, view_same}
 use Rattle.reduce_model.specs.Building.{IsFirstOfWide, in_phase, up_to_each}
@@ -25,13 +23,6 @@ use Rattle.reduce_model.specs.declared.decision.Decision.{Decision}
 use Rattle.reduce_model.specs.declared.decision.Decision.TheVariants.{Kept, Conflict, Weaker, FirstPass, SecondPass}
 
 -- ---- what keeps and breaks
-
--- a trace that can't break a constraint keeps it
-pub keeps-stable : (c : Constraint) (w : List ℕ) → ((KeepsOne c w → ⊥) → ⊥) → KeepsOne c w
-keeps-stable c w h = elim (true_or_false (keeps nat_eq c.kind c.first c.second w)) [
-  | inl yes_ ↦ (Keeps-keeps nat_eq c.kind c.first c.second w).0 yes_
-  | inr lacks ↦ absurd (h (λ kept. let yes_ = (Keeps-keeps nat_eq c.kind c.first c.second w).1 kept in cc (yes_, lacks)))
-]
 
 pub none-implies : (n : ℕ) (list : List Constraint) (c : Constraint) → HasNoMember n (Breaks list c) → Implies n list c
 none-implies n list c none w tw kept = keeps-stable c w (λ broken. none w tw (kept, broken))

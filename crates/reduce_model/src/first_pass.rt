@@ -28,9 +28,10 @@ pub(crate) fn pass_first(
 {
     let mut left = Dfa::everything(alloc, symbols)?;
     let mut length = 0;
+    let mut last = 1;
     for place in 0..list.len() {
         if decisions[place].is_kept() {
-            match try_candidate(alloc, &left, &list[place], states)? {
+            match try_candidate(alloc, &left, &list[place], states, &mut last)? {
                 Tried::Implied => decisions[place] = Decision::FirstPass,
                 Tried::Left(more) => {
                     left = more;

@@ -44,11 +44,12 @@ fn grow(
     ensures ok { IfOk result (IsGrown states start list.now) }
     ensures err { IfErr result (λ e. e ≡ Refusal.Memory) }
 {
+    let mut last = start.states();
     let mut dfa = start;
     let mut count = 0;
     for constraint in list {
         count += 1;
-        match extended(alloc, &dfa, constraint, states)? {
+        match extended(alloc, &dfa, constraint, states, &mut last)? {
             Some(more) => dfa = more,
             None => return Ok(Grown::Wide(count)),
         }

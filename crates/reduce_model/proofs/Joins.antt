@@ -1,5 +1,5 @@
 -- What the automaton of a list and a candidate tells.
-use Rattle.std.proofs.Common.{◌≡◌, ◌↔◌, ℕ, ◌+◌, ◌<◌, ◌≤◌, inl, inr, List, Option, Some, None, MatchOption, refl, sym, ◌∙◌}
+use Rattle.std.proofs.Common.{◌≡◌, ◌↔◌, ℕ, ◌+◌, ◌≤◌, inl, inr, List, Option, Some, None, MatchOption, refl, sym, ◌∙◌}
 use Rattle.std.proofs.lemmas.Bool.{cases_lt}
 use Rattle.dfa_core.specs.Automaton.{Automaton, Accepts, IsBreadthFirst, IsWhole, SameLanguage, state_count}
 use Rattle.dfa_core.specs.Languages.{HasNoMember, IsLeastMember}

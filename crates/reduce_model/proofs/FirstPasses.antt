@@ -1,37 +1,31 @@
 -- The first pass that goes on by one candidate.
-use Rattle.std.proofs.Common.{◌≡◌, ◌≢◌, ◌↔◌, ℕ, zero, suc, ◌+◌, ◌<◌, ◌≤◌, inl, inr, List, [], ◌∷◌, ◌++◌, Bool, true, false, length, map, take, drop, get_or, set, refl, sym, ap, ◌∙◌, arith, nat_eq, add-one, drop-cons, get_or-set_same, get_or-set_other}
+use Rattle.std.proofs.Common.{◌≡◌, ◌≢◌, ◌↔◌, ℕ, zero, suc, ◌+◌, ◌<◌, ◌≤◌, inl, inr, List, [], ◌∷◌, ◌++◌, Bool, true, false, length, map, take, drop, get_or, set, refl, sym, ap, ◌∙◌, arith, add-one, drop-cons, get_or-set_same, get_or-set_other}
 use Rattle.std.proofs.lemmas.Bool.{cases_lt, cases_eq}
 use Rattle.std.proofs.lemmas.List.{append-nil, get_or-map, length-map, length-set, length_push, map-set, take_all, take-append-le, take-set-le}
-use Rattle.dfa_core.specs.Automaton.{Automaton, Accepts, IsEverything, state_count}
+use Rattle.std.proofs.lemmas.List.Elements.{All-cons, All-nil}
+use Rattle.dfa_core.specs.Automaton.{Automaton, IsEverything}
 use Rattle.dfa_core.specs.Languages.{HasNoMember}
 use Rattle.dfa_core.specs.Traces.{IsTrace}
 use Rattle.dfa_minimise.specs.Wide.{IsWide}
 use Rattle.template_core.specs.declared.constraint.Constraint.{Constraint}
-use Rattle.template_core.proofs.KeepsTest.{Keeps-keeps}
-use Rattle.template_core.specs.Repertoire.{keeps}
 use Rattle.reduce_model.proofs.Determined.{Has, first_pass_forward, forward_first_pass, left_same_below}
 use Rattle.reduce_model.proofs.Lists.{phase-narrow, up-first, up-narrow}
 use Rattle.reduce_model.proofs.Marks.{IsForward, anything, true_or_false}
-use Rattle.reduce_model.proofs.Members.{over-wide, wide-over}
+use Rattle.reduce_model.proofs.Members.{keeps-stable, over-wide, wide-over}
+use Rattle.reduce_model.proofs.KeptPrefixes.{AreKeptUpTo, IsPrefixUpTo}
 use Rattle.reduce_model.proofs.Sifts.{empty-narrow, keeps-push, length-take_le, push-keeps}
 use Rattle.reduce_model.proofs.Writes.{fixed-at, fixed-fixed, map-set_same, marked-next, marked-split, view_same}
 use Rattle.reduce_model.specs.Building.{IsFirstOfWide, in_phase, up_to_each}
 use Rattle.reduce_model.specs.Deciding.{is_kept, is_left, is_strongest, marked, those}
 use Rattle.reduce_model.specs.Joining.{AcceptsBroken, AcceptsKept, Extends}
-use Rattle.reduce_model.specs.Keeping.{KeepsAll, KeepsOne}
-use Rattle.reduce_model.specs.Passes.{IsFirstPassed, IsNarrowList, before_first_pass, before_second_pass}
+use Rattle.reduce_model.specs.Keeping.{KeepsAll}
+use Rattle.reduce_model.specs.Passes.{IsAutomatonOf, IsFirstPassed, IsNarrowList, before_first_pass, before_second_pass}
 use Rattle.reduce_model.specs.Reduction.{Breaks, Implies, TellsFirstPass}
 use Rattle.reduce_model.specs.declared.decision.Decision.{Decision}
 use Rattle.reduce_model.specs.declared.decision.Decision.TheVariants.{Kept, Conflict, Weaker, FirstPass, SecondPass}
+use Rattle.reduce_model.specs.declared.prefixes.Prefix.{Prefix}
 
 -- ---- what keeps and breaks
-
--- a trace that can't break a constraint keeps it
-pub keeps-stable : (c : Constraint) (w : List ℕ) → ((KeepsOne c w → ⊥) → ⊥) → KeepsOne c w
-keeps-stable c w h = elim (true_or_false (keeps nat_eq c.kind c.first c.second w)) [
-  | inl yes_ ↦ (Keeps-keeps nat_eq c.kind c.first c.second w).0 yes_
-  | inr lacks ↦ absurd (h (λ kept. let yes_ = (Keeps-keeps nat_eq c.kind c.first c.second w).1 kept in cc (yes_, lacks)))
-]
 
 pub none-implies : (n : ℕ) (list : List Constraint) (c : Constraint) → HasNoMember n (Breaks list c) → Implies n list c
 none-implies n list c none w tw kept = keeps-stable c w (λ broken. none w tw (kept, broken))
@@ -54,12 +48,6 @@ narrow-push n s list c h none size wide =
 abbrev pub left_before : ℕ → List Constraint → List Decision → List Constraint
 left_before at list ds = marked (take at (map is_left ds)) (take at list)
 
--- a list as an automaton
-pub record IsAutomatonOf (n : ℕ) (list : List Constraint) (a : Automaton) : Type 0 where
-  pub over : a.symbols ≡ n
-  pub same : (w : List ℕ) → IsTrace n w → Accepts a w ↔ KeepsAll list w
-  pub few : state_count a ≤ 65536
-
 -- the candidates before a place are gone through, the others not yet
 pub record IsPassing (n s : ℕ) (list : List Constraint) (old new : List Decision) (at : ℕ) (left : Automaton) (size : ℕ) : Type 0 where
   pub as_many : length new ≡ length list
@@ -78,11 +66,11 @@ passes-passes (Weaker by) = refl
 passes-passes FirstPass = refl
 passes-passes SecondPass = refl
 
-take-nil : (size : ℕ) → let none : List Constraint = [] in take size none ≡ []
+pub take-nil : (size : ℕ) → let none : List Constraint = [] in take size none ≡ []
 take-nil zero = refl
 take-nil (suc size) = refl
 
-every-automaton : (n : ℕ) (a : Automaton) → IsEverything n a → IsAutomatonOf n [] a
+pub every-automaton : (n : ℕ) (a : Automaton) → IsEverything n a → IsAutomatonOf n [] a
 every-automaton n a e = record {
   over = e.over;
   same = λ w tw. (λ is. tt, λ all. e.accepts_all w tw);
@@ -328,3 +316,41 @@ passing-size n s list old new at left size h =
     let few = length-marked (take at (map is_left new)) (take at list) in
     let front = length-take_le at list in
     omega (arith, counted, few, front)
+
+-- ---- the prefixes that are kept
+
+-- what is left so far
+pub passing-prefix : (n s : ℕ) (list : List Constraint) (old new : List Decision) (prefix : Prefix) → prefix.place ≤ length list → IsPassing n s list old new prefix.place prefix.dfa prefix.length
+    → IsPrefixUpTo n s list (map is_left new) prefix.place prefix
+passing-prefix n s list old new prefix le h = record {
+  before = omega arith;
+  is = record {
+    within = le;
+    automaton = h.automaton;
+    counted = h.counted;
+    narrow = h.narrow;
+  };
+}
+
+-- a mark of the first pass stands behind them
+pub marked-later : (new : List Decision) (at : ℕ) (d : Decision) (place : ℕ) → place ≤ at → take place (map is_left (set new at d)) ≡ take place (map is_left new)
+marked-later new at d place le = ap (take place) (map-set is_left new at d) ∙ take-set-le place (map is_left new) at (is_left d) le
+
+-- the one that every trace keeps
+pub kept-first : (n s : ℕ) (list : List Constraint) (marks : List Bool) (old new : List Prefix) (prefix : Prefix) → old ≡ [] → new ≡ old ++ prefix ∷ [] → 1 ≤ s → IsEverything n prefix.dfa → prefix.place ≡ 0 → prefix.length ≡ 0
+    → AreKeptUpTo n s list marks 0 new
+kept-first n s list marks old new prefix empty pushed some every place_ length_ =
+    let is : IsPrefixUpTo n s list marks 0 prefix = record {
+      before = omega arith;
+      is = record {
+        within = omega arith;
+        automaton = rw place_ (every-automaton n prefix.dfa every);
+        counted = rw (place_, length_) refl;
+        narrow = rw place_ (λ size wide. empty-narrow n s some (rw (take-nil size) at wide));
+      };
+    } in
+    rw (pushed, empty) (record {
+      some = omega arith;
+      first = λ d. place_;
+      are = All-cons (IsPrefixUpTo n s list marks 0) prefix [] is (All-nil (IsPrefixUpTo n s list marks 0));
+    })

@@ -1,18 +1,22 @@
 -- An automaton that constraints join, one after the other.
-use Rattle.std.proofs.Common.{◌≡◌, ◌↔◌, ℕ, zero, suc, ◌+◌, ◌<◌, ◌≤◌, inl, inr, List, [], ◌∷◌, ◌++◌, length, take, refl, ◌∙◌, arith}
+use Rattle.std.proofs.Common.{◌≡◌, ◌↔◌, ℕ, zero, suc, ◌+◌, ◌-◌, ◌<◌, ◌≤◌, inl, inr, List, [], ◌∷◌, ◌++◌, length, take, sym, ap, subst, ◌∙◌, arith, length-append}
+use Rattle.std.proofs.Math.Seq.{take-append-add}
 use Rattle.std.proofs.lemmas.Bool.{cases_lt}
-use Rattle.std.proofs.lemmas.List.{take_all}
-use Rattle.dfa_core.specs.Automaton.{Automaton, Accepts, IsEverything, state_count}
+use Rattle.std.proofs.lemmas.List.{append-nil, take-append-le, take_all}
+use Rattle.dfa_core.specs.Automaton.{Automaton, Accepts, IsReachable, state_count, steps_of}
 use Rattle.dfa_core.specs.Languages.{HasNoMember, IsLeastMember}
 use Rattle.dfa_core.specs.Traces.{IsTrace}
 use Rattle.dfa_minimise.specs.Wide.{IsWide}
 use Rattle.template_core.specs.declared.constraint.Constraint.{Constraint}
+use Rattle.reduce_model.proofs.Meaning.{keeps-append}
 use Rattle.reduce_model.proofs.Members.{least-same, over-wide, wide-over}
-use Rattle.reduce_model.proofs.Sifts.{empty-narrow, keeps-push, push-keeps}
+use Rattle.reduce_model.proofs.Sifts.{keeps-push, push-keeps}
 use Rattle.reduce_model.specs.Joining.{AcceptsBroken, AcceptsKept, Extends}
 use Rattle.reduce_model.specs.Keeping.{KeepsAll}
-use Rattle.reduce_model.specs.Passes.{AcceptsAll, IsFirstPrefix, IsGrownBy, IsNarrowList, IsWideFrom}
+use Rattle.reduce_model.specs.Passes.{AcceptsAll, AcceptsBreaks, IsAutomatonOf, IsFirstPrefix, IsGrownBy, IsNarrowFrom, IsNarrowList, IsSought, IsSoughtFrom, IsWideFrom}
 use Rattle.reduce_model.specs.Reduction.{Breaks}
+use Rattle.reduce_model.specs.declared.grown.Sought.{Sought}
+use Rattle.reduce_model.specs.declared.grown.Sought.TheVariants.{Found, Missing, TooWide}
 
 -- the automaton with so many of the constraints
 pub record IsGrowing (s : ℕ) (a : Automaton) (list : List Constraint) (at : ℕ) (dfa : Automaton) : Type 0 where
@@ -21,11 +25,11 @@ pub record IsGrowing (s : ℕ) (a : Automaton) (list : List Constraint) (at : �
   pub few : state_count dfa ≤ 65536
   pub narrow : (size : ℕ) → 0 < size → size ≤ at → IsWide a.symbols (AcceptsAll a (take size list)) s → ⊥
 
-pub growing-none : (s : ℕ) (a : Automaton) (list : List Constraint) → state_count a ≤ 65536 → IsGrowing s a list 0 a
-growing-none s a list few = record {
-  over = refl;
-  same = λ w tw. (λ is. (is, tt), λ both. both.0);
-  few = few;
+pub growing-none : (s : ℕ) (a : Automaton) (list : List Constraint) (copy : Automaton) → state_count a ≤ 65536 → IsReachable (steps_of a) copy → IsGrowing s a list 0 copy
+growing-none s a list copy few h = record {
+  over = h.over;
+  same = λ w tw. let e = h.same w tw in (λ is. (sym e ∙ is, tt), λ both. e ∙ both.0);
+  few = let less = h.few in omega (arith, less, few);
   narrow = λ size some le wide. omega (arith, some, le);
 }
 
@@ -71,49 +75,76 @@ growing-all s a list at dfa all_ past h = record {
   narrow = λ size some le wide. h.narrow size some (omega (arith, le, past)) wide;
 }
 
--- ---- from every trace
+-- ---- what is sought
 
-every : (n : ℕ) (a : Automaton) (list : List Constraint) → IsEverything n a → (w : List ℕ) → IsTrace n w → AcceptsAll a list w ↔ KeepsAll list w
-every n a list e w tw = (λ both. both.1, λ all. (e.accepts_all w tw, all))
+module _ (s : ℕ) (a : Automaton) (list : List Constraint) (dfa : Automaton) (h : IsGrownBy s a list dfa) where
+  broken-same : (c : Constraint) (w : List ℕ) → IsTrace a.symbols w → AcceptsBroken dfa c w ↔ AcceptsBreaks a list c w
+  broken-same c w tw = let p = h.same w tw in (λ b. (p.0 b.0, b.1), λ b. (p.1 b.0, b.1))
 
-some-narrow : (n s : ℕ) (list : List Constraint) → 1 ≤ s → ((size : ℕ) → 0 < size → size ≤ length list → IsWide n (KeepsAll (take size list)) s → ⊥) → (size : ℕ) → size ≤ length list → IsWide n (KeepsAll (take size list)) s → ⊥
-some-narrow n s list some h zero le wide = empty-narrow n s some wide
-some-narrow n s list some h (suc size) le wide = h (suc size) (omega arith) le wide
+  pub found : (c : Constraint) (t : List ℕ) → IsLeastMember dfa.symbols (AcceptsBroken dfa c) t → IsLeastMember a.symbols (AcceptsBreaks a list c) t
+  found c t least = least-same dfa.symbols a.symbols (AcceptsBroken dfa c) (AcceptsBreaks a list c) t h.over (broken-same c) least
 
-pub narrow-list : (n s : ℕ) (list : List Constraint) → 1 ≤ s → ((size : ℕ) → 0 < size → size ≤ length list → IsWide n (KeepsAll (take size list)) s → ⊥) → IsNarrowList n s list
-narrow-list n s list some h size wide = elim (cases_lt (length list) size) [
-  | inl past ↦
-      let all_ : take size list ≡ list = take_all size list (omega arith) in
-      let same : take (length list) list ≡ list = take_all (length list) list (omega arith) in
-      some-narrow n s list some h (length list) (omega arith) (rw same (rw all_ at wide))
-  | inr le ↦ some-narrow n s list some h size le wide
-]
+  pub missing : (c : Constraint) → HasNoMember dfa.symbols (AcceptsBroken dfa c) → HasNoMember a.symbols (AcceptsBreaks a list c)
+  missing c none w tw breaks = none w (rw h.over tw) ((broken-same c w tw).1 breaks)
 
-module _ (n s : ℕ) (a : Automaton) (list : List Constraint) (some : 1 ≤ s) (e : IsEverything n a) where
-  pub grown-narrow : (dfa : Automaton) → IsGrownBy s a list dfa → IsNarrowList n s list
-  grown-narrow dfa h = narrow-list n s list some (λ size positive le wide.
-      h.narrow size positive le (wide-over a.symbols n s (AcceptsAll a (take size list)) (KeepsAll (take size list)) e.over (every n a (take size list) e) wide))
+-- ---- from the automaton of a list on
 
-  grown-same : (dfa : Automaton) → IsGrownBy s a list dfa → (w : List ℕ) → IsTrace n w → Accepts dfa w ↔ KeepsAll list w
-  grown-same dfa h w tw = let p = h.same w (rw e.over tw) in let q = every n a list e w tw in (λ is. q.0 (p.0 is), λ all. p.1 (q.1 all))
+module _ (n s : ℕ) (before rest full : List Constraint) (a : Automaton) (is : full ≡ before ++ rest) (e : IsAutomatonOf n before a) (narrow : IsNarrowList n s before) where
+  all-same : (list : List Constraint) (w : List ℕ) → IsTrace n w → AcceptsAll a list w ↔ KeepsAll (before ++ list) w
+  all-same list w tw =
+      let p = e.same w tw in
+      let q = keeps-append before list w in (λ both. q.1 (p.0 both.0, both.1), λ all. let parts = q.0 all in (p.1 parts.0, parts.1))
 
-  broken-same : (dfa : Automaton) (c : Constraint) → IsGrownBy s a list dfa → (w : List ℕ) → IsTrace n w → AcceptsBroken dfa c w ↔ Breaks list c w
-  broken-same dfa c h w tw = let p = grown-same dfa h w tw in (λ b. (p.0 b.0, b.1), λ b. (p.1 b.0, b.1))
+  breaks-same : (c : Constraint) (w : List ℕ) → IsTrace n w → AcceptsBreaks a rest c w ↔ Breaks full c w
+  breaks-same c w tw = let p = all-same rest w tw in rw is (λ b. (p.0 b.0, b.1), λ b. (p.1 b.0, b.1))
 
-  pub found : (dfa : Automaton) (c : Constraint) (t : List ℕ) → IsGrownBy s a list dfa → IsLeastMember dfa.symbols (AcceptsBroken dfa c) t → IsLeastMember n (Breaks list c) t
-  found dfa c t h least = least-same dfa.symbols n (AcceptsBroken dfa c) (Breaks list c) t (h.over ∙ e.over) (broken-same dfa c h) least
+  some-narrow : (most : ℕ) → ((size : ℕ) → 0 < size → size ≤ most → IsWide a.symbols (AcceptsAll a (take size rest)) s → ⊥) → (size : ℕ) → size ≤ most → IsWide n (KeepsAll (before ++ take size rest)) s → ⊥
+  some-narrow most h zero le wide =
+      let here : IsWide n (KeepsAll before) s = rw append-nil at wide in
+      narrow (length before) (rw (take_all (length before) before (omega arith)) here)
+  some-narrow most h (suc size) le wide =
+      h (suc size) (omega arith) le (wide-over a.symbols n s (AcceptsAll a (take (suc size) rest)) (KeepsAll (before ++ take (suc size) rest)) e.over (all-same (take (suc size) rest)) wide)
 
-  pub missing : (dfa : Automaton) (c : Constraint) → IsGrownBy s a list dfa → HasNoMember dfa.symbols (AcceptsBroken dfa c) → HasNoMember n (Breaks list c)
-  missing dfa c h none w tw breaks = none w (rw (h.over ∙ e.over) tw) ((broken-same dfa c h w tw).1 breaks)
+  below : (most : ℕ) → ((size : ℕ) → 0 < size → size ≤ most → IsWide a.symbols (AcceptsAll a (take size rest)) s → ⊥) → (size : ℕ) → size ≤ length before + most → IsWide n (KeepsAll (take size full)) s → ⊥
+  below most h size le wide = elim (cases_lt (length before) size) [
+    | inl past ↦
+        let more : (k : ℕ) × (size ≡ length before + k) = (size - length before, omega arith) in
+        let cut : take size full ≡ before ++ take more.0 rest = ap (take size) is ∙ (ap (λ (k : ℕ). take k (before ++ rest)) more.1 ∙ take-append-add before rest more.0) in
+        let same = more.1 in
+        some-narrow most h more.0 (omega (arith, same, le)) (subst (λ (l : List Constraint). IsWide n (KeepsAll l) s) cut wide)
+    | inr few ↦
+        let cut : take size full ≡ take size before = ap (take size) is ∙ take-append-le size before rest few in
+        narrow size (subst (λ (l : List Constraint). IsWide n (KeepsAll l) s) cut wide)
+  ]
 
-  first-less : (size : ℕ) → IsWideFrom s a list size → (less : ℕ) → less < size → IsWide n (KeepsAll (take less list)) s → ⊥
-  first-less size h zero lt wide = empty-narrow n s some wide
-  first-less size h (suc less) lt wide =
-      h.first (suc less) (omega arith) lt (wide-over a.symbols n s (AcceptsAll a (take (suc less) list)) (KeepsAll (take (suc less) list)) e.over (every n a (take (suc less) list) e) wide)
+  full-length : length full ≡ length before + length rest
+  full-length = ap length is ∙ length-append before rest
 
-  pub first-prefix : (size : ℕ) → IsWideFrom s a list size → IsFirstPrefix n s list size
-  first-prefix size h = record {
-    within = h.within;
-    wide = over-wide a.symbols n s (AcceptsAll a (take size list)) (KeepsAll (take size list)) e.over (every n a (take size list) e) h.wide;
-    first = first-less size h;
-  }
+  narrow-all : IsNarrowFrom s a rest → IsNarrowList n s full
+  narrow-all h size wide = elim (cases_lt (length full) size) [
+    | inl past ↦
+        let long = full-length in
+        let all_ : take size full ≡ take (length full) full = take_all size full (omega arith) ∙ sym (take_all (length full) full (omega arith)) in
+        below (length rest) h (length full) (omega (arith, long)) (subst (λ (l : List Constraint). IsWide n (KeepsAll l) s) all_ wide)
+    | inr le ↦ let long = full-length in below (length rest) h size (omega (arith, long, le)) wide
+  ]
+
+  first-all : (count : ℕ) → IsWideFrom s a rest count → IsFirstPrefix n s full (length before + count)
+  first-all count h =
+      let long = full-length in
+      let some = h.some in
+      let within = h.within in
+      let cut : take (length before + count) full ≡ before ++ take count rest = ap (take (length before + count)) is ∙ take-append-add before rest count in
+      let wide : IsWide n (KeepsAll (before ++ take count rest)) s = over-wide a.symbols n s (AcceptsAll a (take count rest)) (KeepsAll (before ++ take count rest)) e.over (all-same (take count rest)) h.wide in
+      record {
+        within = omega (arith, long, within);
+        wide = subst (λ (l : List Constraint). IsWide n (KeepsAll l) s) (sym cut) wide;
+        first = λ less lt. below (count - 1) (λ size positive le. h.first size positive (omega (arith, le, some))) less (omega (arith, lt, some));
+      }
+
+  pub sought : (size : ℕ) → size ≡ length before → (c : Constraint) (r : Sought) → IsSoughtFrom s a size rest c r → IsSought n s full c r
+  sought size long c (Found t) h = (least-same a.symbols n (AcceptsBreaks a rest c) (Breaks full c) t e.over (breaks-same c) h.0, narrow-all h.1)
+  sought size long c Missing h = (λ w tw b. h.0 w (rw e.over tw) ((breaks-same c w tw).1 b), narrow-all h.1)
+  sought size long c (TooWide built) h =
+      let same : built ≡ length before + h.count = h.counted ∙ ap (λ (k : ℕ). k + h.count) long in
+      rw same (first-all h.count h.from)

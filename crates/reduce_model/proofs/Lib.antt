@@ -8,6 +8,7 @@ pub mod Grows
 pub mod Writes
 pub mod Prunes
 pub mod FirstPasses
+pub mod KeptPrefixes
 pub mod SecondPasses
 pub mod Witnessing
 pub mod Meaning

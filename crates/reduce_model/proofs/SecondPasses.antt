@@ -1,22 +1,25 @@
 -- The second pass that goes on by one candidate, from the last to the first.
-use Rattle.std.proofs.Common.{◌≡◌, ◌≢◌, ℕ, suc, ◌+◌, ◌-◌, ◌<◌, ◌≤◌, inl, inr, List, [], ◌∷◌, ◌++◌, Bool, true, false, length, map, take, drop, get_or, set, refl, sym, ap, subst, ◌∙◌, arith, add-one, append_assoc, drop-cons, length-append, length-drop, get_or-set_same, get_or-set_other}
+use Rattle.std.proofs.Common.{◌≡◌, ◌≢◌, ℕ, suc, ◌+◌, ◌-◌, ◌<◌, ◌≤◌, inl, inr, List, [], ◌∷◌, ◌++◌, Bool, true, false, length, map, take, drop, get_or, set, refl, sym, ap, subst, ◌∙◌, arith, add-one, append_assoc, drop-cons, length-append, length-drop, reverse, get_or-set_same, get_or-set_other}
 use Rattle.std.specs.List.{All, AllByRecursion}
 use Rattle.std.proofs.lemmas.Bool.{cases_eq}
-use Rattle.std.proofs.lemmas.List.{drop-map, drop-set-lt, drop_all, get_or-map, length-map, length-set, length-take, length-take-le, map-set, take-append-drop, take-map}
+use Rattle.std.proofs.lemmas.List.{drop-map, drop-set-lt, drop_all, get_or-map, length-map, length-set, length-take, length-take-le, map-set, reverse-append, take-append-drop, take-map, take-take}
 use Rattle.std.proofs.lemmas.List.Elements.{All-append, All-cons, All-drop, All-head, All-nil, All-tail, All-take}
 use Rattle.dfa_core.specs.Languages.{HasNoMember, IsLeastMember}
 use Rattle.template_core.specs.declared.constraint.Constraint.{Constraint}
 use Rattle.reduce_model.proofs.Determined.{Has, ImpliesWith, backward_second_pass, kept_same_from}
 use Rattle.reduce_model.proofs.FirstPasses.{before-has, before-lacks, is-kept, left_before, length-marked, none-implies}
+use Rattle.reduce_model.proofs.Grows.{sought}
 use Rattle.reduce_model.proofs.Lists.{all-append, phase-first, phase-narrow, tests-split}
 use Rattle.reduce_model.proofs.Marks.{IsBackward, anything}
-use Rattle.reduce_model.proofs.Writes.{fixed-at, map-set_same, take-ext, view_same}
+use Rattle.reduce_model.proofs.Writes.{fixed-at, map-set_same, marked-split, take-ext, view_same}
 use Rattle.reduce_model.specs.Building.{IsFirstOfWide, in_phase, tests}
 use Rattle.reduce_model.specs.Deciding.{after, before, is_kept, is_left, marked, those}
-use Rattle.reduce_model.specs.Passes.{IsFirstPrefix, IsNarrowList, IsSecondPassed, before_second_pass}
+use Rattle.reduce_model.specs.Passes.{AreFirstWitnesses, IsFirstPrefix, IsNarrowList, IsPrefixOf, IsSecondPassed, IsSought, IsSoughtFrom, before_second_pass}
 use Rattle.reduce_model.specs.Reduction.{Breaks, TellsSecondPass}
 use Rattle.reduce_model.specs.declared.decision.Decision.{Decision}
 use Rattle.reduce_model.specs.declared.decision.Decision.TheVariants.{Kept, Conflict, Weaker, FirstPass, SecondPass}
+use Rattle.reduce_model.specs.declared.grown.Sought.{Sought}
+use Rattle.reduce_model.specs.declared.prefixes.Prefix.{Prefix}
 
 -- ---- the tests
 
@@ -43,6 +46,35 @@ tests-at before list ds p ll ld has = rw (drop-cons list p anything ll, drop-con
 tests-past : (before list : List Constraint) (ds : List Decision) (p : ℕ) → p < length list → p < length ds → is_left (get_or ds p Kept) ≡ false
     → tests before (drop p list) (drop p ds) ≡ tests before (drop (suc p) list) (drop (suc p) ds)
 tests-past before list ds p ll ld lacks = rw (drop-cons list p anything ll, drop-cons ds p Kept ld, lacks) refl
+
+-- ---- what stands is of the list
+
+pub all-marked : (P : Constraint → Type 0) (marks : List Bool) (list : List Constraint) → All P list → All P (marked marks list)
+all-marked P [] list h = All-nil P
+all-marked P (m ∷ marks) [] h = All-nil P
+all-marked P (true ∷ marks) (c ∷ list) h = All-cons P c (marked marks list) (All-head P c list h) (all-marked P marks list (All-tail P c list h))
+all-marked P (false ∷ marks) (c ∷ list) h = all-marked P marks list (All-tail P c list h)
+
+pub all-others : (P : Constraint → Type 0) (list : List Constraint) (ds : List Decision) (place : ℕ) → All P list → All P (before is_kept place list ds ++ after is_kept place list ds)
+all-others P list ds place h =
+    All-append P (before is_kept place list ds) (after is_kept place list ds) (all-marked P (take place (map is_kept ds)) (take place list) (All-take P place list h))
+    (all-marked P (drop (suc place) (map is_kept ds)) (drop (suc place) list) (All-drop P (suc place) list h))
+
+pub length-others : (list : List Constraint) (ds : List Decision) (place : ℕ) → length (before is_kept place list ds ++ after is_kept place list ds) ≤ length list
+length-others list ds place =
+    let a = length-marked (take place (map is_kept ds)) (take place list) in
+    let b = length-marked (drop (suc place) (map is_kept ds)) (drop (suc place) list) in
+    let t = length-take place list in
+    let d = length-drop (suc place) list in
+    let both = length-append (before is_kept place list ds) (after is_kept place list ds) in
+    omega (arith, a, b, t, d, both)
+
+pub all-from : (P : Constraint → Type 0) (list : List Constraint) (ds : List Decision) (from place : ℕ) → All P list
+    → All P (marked (drop from (take place (map is_kept ds))) (drop from (take place list)) ++ after is_kept place list ds)
+all-from P list ds from place h =
+    All-append P (marked (drop from (take place (map is_kept ds))) (drop from (take place list))) (after is_kept place list ds)
+    (all-marked P (drop from (take place (map is_kept ds))) (drop from (take place list)) (All-drop P from (take place list) (All-take P place list h)))
+    (all-marked P (drop (suc place) (map is_kept ds)) (drop (suc place) list) (All-drop P (suc place) list h))
 
 -- ---- the pass
 
@@ -111,6 +143,14 @@ module _ (n s : ℕ) (list : List Constraint) (old new : List Decision) (p : ℕ
         narrow = rw (tests-past (left_before p list new) list new p in_list in_new lacks_left) (rw same_list at h.narrow);
       }
 
+  pub found-on : (ws : List (List ℕ)) → is_kept (get_or new p Kept) ≡ false → AreFirstWitnesses n s (left_before (suc p) list new) (those is_kept (drop (suc p) list) (drop (suc p) new)) ws
+      → AreFirstWitnesses n s (left_before p list new) (those is_kept (drop p list) (drop p new)) ws
+  found-on ws lacks found =
+      let lacks_left : is_left (get_or new p Kept) ≡ false = sym (kept-is-left (get_or new p Kept) (h.fresh p (omega arith))) ∙ lacks in
+      let same_list : left_before (suc p) list new ≡ left_before p list new = rw (← add-one) (before-lacks list (map is_left new) p (in_marks is_left) in_list (mark-of is_left ∙ lacks_left)) in
+      let tail : those is_kept (drop p list) (drop p new) ≡ those is_kept (drop (suc p) list) (drop (suc p) new) = rw (drop-cons list p anything in_list, drop-cons new p Kept in_new, lacks) refl in
+      rw tail (rw same_list at found)
+
   module _ (kept : is_kept (get_or new p Kept) ≡ true) where
     is : get_or new p Kept ≡ Kept
     is = is-kept (get_or new p Kept) kept
@@ -135,6 +175,55 @@ module _ (n s : ℕ) (list : List Constraint) (old new : List Decision) (p : ℕ
 
     those_after : those is_kept (drop (suc p) list) (drop (suc p) new) ≡ marked (drop (suc p) (map is_kept new)) (drop (suc p) list)
     those_after = ap (λ (l : List Bool). marked l (drop (suc p) list)) (sym (drop-map is_kept (suc p) new))
+
+    -- the others behind a place, and those before it that are left
+    pub split-others : (q : ℕ) → q ≤ p → before is_kept p list new ++ after is_kept p list new
+        ≡ marked (take q (map is_left new)) (take q list) ++ (marked (drop q (take p (map is_kept new))) (drop q (take p list)) ++ after is_kept p list new)
+    split-others q le =
+        let behind : List Constraint = marked (drop q (take p (map is_kept new))) (drop q (take p list)) in
+        let first : marked (take q (take p (map is_kept new))) (take q (take p list)) ≡ marked (take q (map is_left new)) (take q list) =
+        ap (λ (l : List Bool). marked (take q l) (take q (take p list))) front
+        ∙ (ap (λ (l : List Bool). marked l (take q (take p list))) (take-take q p (map is_left new) le) ∙ ap (marked (take q (map is_left new))) (take-take q p list le)) in
+        ap (λ (l : List Constraint). l ++ after is_kept p list new) (marked-split (take p (map is_kept new)) (take p list) q ∙ ap (λ (l : List Constraint). l ++ behind) first)
+        ∙ append_assoc (marked (take q (map is_left new)) (take q list)) behind (after is_kept p list new)
+
+    left_old : map is_left old ≡ map is_left new
+    left_old = sym (view_same before_second_pass is_left new old left-passes h.same)
+
+    -- a test that begins with what is left before an earlier place
+    module _ (prefix : Prefix) (le : prefix.place ≤ p) (prefix_of : IsPrefixOf n s list (map is_left old) prefix) where
+      abbrev pub rest : List Constraint
+      rest = marked (drop prefix.place (take p (map is_kept new))) (drop prefix.place (take p list)) ++ after is_kept p list new
+
+      prefix_now : IsPrefixOf n s list (map is_left new) prefix
+      prefix_now = subst (λ (marks : List Bool). IsPrefixOf n s list marks prefix) left_old prefix_of
+
+      pub back-sought : (c : Constraint) (r : Sought) → IsSoughtFrom s prefix.dfa prefix.length rest c r → IsSought n s (before is_kept p list new ++ after is_kept p list new) c r
+      back-sought c r found =
+          sought n s (marked (take prefix.place (map is_left new)) (take prefix.place list)) rest (before is_kept p list new ++ after is_kept p list new) prefix.dfa (split-others prefix.place le) prefix_now.automaton prefix_now.narrow
+          prefix.length prefix_now.counted c r found
+
+      pub back-length : prefix.length + length rest ≤ length list
+      back-length =
+          let counted = prefix_now.counted in
+          let whole = ap length (split-others prefix.place le) in
+          let both = length-append (marked (take prefix.place (map is_left new)) (take prefix.place list)) rest in
+          let few = length-others list new p in
+          omega (arith, counted, whole, both, few)
+
+    -- ---- the witnesses that are found
+
+    pub found-more : (ws : List (List ℕ)) (t : List ℕ) → IsLeastMember n (Breaks (before is_kept p list new ++ after is_kept p list new) (get_or list p anything)) t
+        → IsNarrowList n s (before is_kept p list new ++ after is_kept p list new) → AreFirstWitnesses n s (left_before (suc p) list new) (those is_kept (drop (suc p) list) (drop (suc p) new)) (reverse ws)
+        → AreFirstWitnesses n s (left_before p list new) (those is_kept (drop p list) (drop p new)) (reverse (ws ++ t ∷ []))
+    found-more ws t least narrow found =
+        let tail : List Constraint = those is_kept (drop (suc p) list) (drop (suc p) new) in
+        let tested : before is_kept p list new ++ after is_kept p list new ≡ left_before p list new ++ tail = others ∙ ap (λ (l : List Constraint). left_before p list new ++ l) (sym those_after) in
+        let here : those is_kept (drop p list) (drop p new) ≡ get_or list p anything ∷ tail = rw (drop-cons list p anything in_list, drop-cons new p Kept in_new, kept) refl in
+        let more : AreFirstWitnesses n s (left_before p list new ++ get_or list p anything ∷ []) tail (reverse ws) = rw longer at found in
+        let least_ : IsLeastMember n (Breaks (left_before p list new ++ tail) (get_or list p anything)) t = rw tested at least in
+        let narrow_ : IsNarrowList n s (left_before p list new ++ tail) = rw tested at narrow in
+        rw (here, reverse-append ws (t ∷ [])) ((least_, narrow_), more)
 
     -- one that the others don't imply stays
     pub back-found : (t : List ℕ) → IsLeastMember n (Breaks (before is_kept p list new ++ after is_kept p list new) (get_or list p anything)) t
@@ -252,27 +341,15 @@ back-step n s list old new at some h = let e : at ≡ suc (at - 1) = omega arith
 pub back-within : (n s : ℕ) (list : List Constraint) (old new : List Decision) (at : ℕ) → 0 < at → IsPassingBack n s list old new at → at - 1 < length list
 back-within n s list old new at some h = let le = h.at_most in omega (arith, le, some)
 
+pub found-end : (n s : ℕ) (list : List Constraint) (new : List Decision) (at : ℕ) (ws : List (List ℕ)) → at ≤ 0 → AreFirstWitnesses n s (left_before at list new) (those is_kept (drop at list) (drop at new)) ws
+    → AreFirstWitnesses n s [] (those is_kept list new) ws
+found-end n s list new at ws none found = let e : at ≡ 0 = omega arith in rw e at found
+
+pub found-step : (n s : ℕ) (list : List Constraint) (new : List Decision) (at : ℕ) (ws : List (List ℕ)) → 0 < at → AreFirstWitnesses n s (left_before at list new) (those is_kept (drop at list) (drop at new)) ws
+    → AreFirstWitnesses n s (left_before (suc (at - 1)) list new) (those is_kept (drop (suc (at - 1)) list) (drop (suc (at - 1)) new)) ws
+found-step n s list new at ws some found =
+    let e : at ≡ suc (at - 1) = omega arith in
+    subst (λ (k : ℕ). AreFirstWitnesses n s (left_before k list new) (those is_kept (drop k list) (drop k new)) ws) e found
+
 pub back-end : (n s : ℕ) (list : List Constraint) (old new : List Decision) (at : ℕ) → at ≤ 0 → IsPassingBack n s list old new at → IsSecondPassed n s list old new
 back-end n s list old new at none h = let e : at ≡ 0 = omega arith in back-all n s list old new (subst (λ (k : ℕ). IsPassingBack n s list old new k) e h)
-
--- ---- what stands is of the list
-
-pub all-marked : (P : Constraint → Type 0) (marks : List Bool) (list : List Constraint) → All P list → All P (marked marks list)
-all-marked P [] list h = All-nil P
-all-marked P (m ∷ marks) [] h = All-nil P
-all-marked P (true ∷ marks) (c ∷ list) h = All-cons P c (marked marks list) (All-head P c list h) (all-marked P marks list (All-tail P c list h))
-all-marked P (false ∷ marks) (c ∷ list) h = all-marked P marks list (All-tail P c list h)
-
-pub all-others : (P : Constraint → Type 0) (list : List Constraint) (ds : List Decision) (place : ℕ) → All P list → All P (before is_kept place list ds ++ after is_kept place list ds)
-all-others P list ds place h =
-    All-append P (before is_kept place list ds) (after is_kept place list ds) (all-marked P (take place (map is_kept ds)) (take place list) (All-take P place list h))
-    (all-marked P (drop (suc place) (map is_kept ds)) (drop (suc place) list) (All-drop P (suc place) list h))
-
-pub length-others : (list : List Constraint) (ds : List Decision) (place : ℕ) → length (before is_kept place list ds ++ after is_kept place list ds) ≤ length list
-length-others list ds place =
-    let a = length-marked (take place (map is_kept ds)) (take place list) in
-    let b = length-marked (drop (suc place) (map is_kept ds)) (drop (suc place) list) in
-    let t = length-take place list in
-    let d = length-drop (suc place) list in
-    let both = length-append (before is_kept place list ds) (after is_kept place list ds) in
-    omega (arith, a, b, t, d, both)

@@ -2,14 +2,14 @@
 use Rattle.std.proofs.Common.{◌≡◌, ◌↔◌, ℕ, zero, suc, ◌+◌, ◌<◌, ◌≤◌, inl, inr, List, [], ◌∷◌, ◌++◌, length, take, refl, sym, ap, ◌∙◌, arith, append_assoc}
 use Rattle.std.proofs.lemmas.Bool.{cases_lt}
 use Rattle.std.proofs.lemmas.List.{append-nil, length_push}
-use Rattle.dfa_core.specs.Automaton.{Accepts, IsEverything, state_count}
+use Rattle.dfa_core.specs.Automaton.{Automaton, Accepts, IsEverything, state_count}
 use Rattle.dfa_core.specs.Languages.{HasNoMember, IsLeastMember}
 use Rattle.dfa_core.specs.Shortlex.{IsBefore}
 use Rattle.dfa_core.specs.Traces.{IsTrace}
 use Rattle.dfa_minimise.specs.Wide.{IsWide}
 use Rattle.template_core.specs.declared.constraint.Constraint.{Constraint}
-use Rattle.reduce_model.proofs.Members.{least-same, over-wide, wide-over}
-use Rattle.reduce_model.specs.Joining.{AcceptsKept, IsTooWide, JoinsKept}
+use Rattle.reduce_model.proofs.Members.{keeps-stable, least-same, over-wide, wide-over}
+use Rattle.reduce_model.specs.Joining.{AcceptsBroken, AcceptsKept, IsTooWide, JoinsKept}
 use Rattle.reduce_model.specs.Keeping.{KeepsAll, KeepsOne, IsKeepable}
 use Rattle.reduce_model.specs.Sifting.{IsFirstWide, IsKeptAfter, IsSift, IsSifted, Sifting, kept_of}
 use Rattle.reduce_model.specs.declared.decision.Decision.{Decision}
@@ -173,6 +173,36 @@ so_far-kept n s list at old new ds c more h joins =
         | inr old_ ↦ h.narrow count other old_ after wide
       ];
     }
+
+-- a candidate that the kept list implies
+pub so_far-implied : (n s : ℕ) (list : List Constraint) (at : ℕ) (old new : KeptList) (ds : List Decision) (c : Constraint) → take (at + 1) list ≡ take at list ++ c ∷ [] → at < length list
+    → IsSiftedSoFar n s list at old ds → HasNoMember old.dfa.symbols (AcceptsBroken old.dfa c) → new.dfa ≡ old.dfa → new.example ≡ old.example → new.length ≡ old.length + 1
+    → IsSiftedSoFar n s list (at + 1) new (ds ++ Kept ∷ [])
+so_far-implied n s list at old new ds c more lt h none same_dfa same_example long =
+    let kept = kept_of (take at list) ds in
+    let carried = h.carried_of in
+    let every : (w : List ℕ) → IsTrace old.dfa.symbols w → Accepts old.dfa w ↔ AcceptsKept old.dfa c w = λ w tw. (λ is. (is, keeps-stable c w (λ breaks. none w tw (is, breaks))), λ both. both.0) in
+    let narrow : IsWide n (KeepsAll kept) s → ⊥ = λ wide. h.narrow at kept (omega arith) (record {
+      within = omega arith;
+      decisions = ds;
+      sifted = h.sifted;
+      is = refl;
+    }) wide in
+    let least : IsLeastMember old.dfa.symbols (Accepts old.dfa) old.example =
+    least-same n old.dfa.symbols (KeepsAll kept) (Accepts old.dfa) old.example (sym carried.over) (λ w tw. let p = carried.same w (rw carried.over at tw) in (p.1, p.0)) carried.example in
+    so_far-kept n s list at old new ds c more h (record {
+      extends = record {
+        over = ap (λ (a : Automaton). a.symbols) same_dfa;
+        same = λ w tw. rw same_dfa (every w tw);
+        narrow = λ wide. narrow (over-wide old.dfa.symbols n s (AcceptsKept old.dfa c) (KeepsAll kept) carried.over
+            (λ w tw.
+            let p = carried.same w tw in
+            let q = every w (rw carried.over tw) in (λ both. p.0 (q.1 both), λ all. q.0 (p.1 all))) wide);
+        few = rw same_dfa carried.few;
+      };
+      example = rw same_example (least-same old.dfa.symbols old.dfa.symbols (Accepts old.dfa) (AcceptsKept old.dfa c) old.example refl every least);
+      new_length = long;
+    })
 
 pub so_far-conflict : (n s : ℕ) (list : List Constraint) (at : ℕ) (old : KeptList) (ds : List Decision) (c : Constraint) → take (at + 1) list ≡ take at list ++ c ∷ []
     → at < length list → IsSiftedSoFar n s list at old ds → HasNoMember old.dfa.symbols (AcceptsKept old.dfa c) → IsSiftedSoFar n s list (at + 1) old (ds ++ Conflict ∷ [])

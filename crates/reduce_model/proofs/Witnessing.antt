@@ -1,16 +1,27 @@
 -- Witnesses of a model, one after the other.
-use Rattle.std.proofs.Common.{◌≡◌, ℕ, suc, ◌+◌, ◌-◌, ◌<◌, inl, inr, List, [], ◌∷◌, ◌++◌, length, take, drop, get_or, refl, sym, ap, ◌∙◌, arith, add-one, append_assoc, drop-cons}
+use Rattle.std.proofs.Common.{◌≡◌, ◌↔◌, ℕ, zero, suc, ◌+◌, ◌-◌, ◌<◌, ◌≤◌, inl, inr, List, [], ◌∷◌, ◌++◌, length, take, drop, get_or, refl, sym, ap, subst, ◌∙◌, arith, add-one, append_assoc, drop-cons, length-append}
 use Rattle.std.specs.List.{AllByRecursion}
 use Rattle.std.proofs.lemmas.Bool.{cases_lt}
-use Rattle.std.proofs.lemmas.List.{append-nil, get_or_append_left, get_or_push, length_push, take-append-drop, take_all, take_more, take_rest}
+use Rattle.std.proofs.lemmas.List.{append-nil, get_or_append_left, get_or_push, length-take-le, length_push, take-append-drop, take-append-le, take-take, take_all, take_more, take_rest}
 use Rattle.std.proofs.lemmas.Option.{slice_get-get_or}
+use Rattle.dfa_core.specs.Automaton.{IsEverything}
 use Rattle.dfa_core.specs.Languages.{HasNoMember, IsLeastMember}
+use Rattle.dfa_core.specs.Traces.{IsTrace}
+use Rattle.dfa_minimise.specs.Wide.{IsWide}
 use Rattle.template_core.specs.declared.constraint.Constraint.{Constraint}
+use Rattle.reduce_model.proofs.FirstPasses.{every-automaton, narrow-push, take-nil}
+use Rattle.reduce_model.proofs.Grows.{sought}
 use Rattle.reduce_model.proofs.Lists.{all-append, all_but-at, length-all_but, phase-first, phase-narrow}
 use Rattle.reduce_model.proofs.Marks.{anything}
+use Rattle.reduce_model.proofs.Members.{over-wide, wide-over}
+use Rattle.reduce_model.proofs.Sifts.{empty-narrow, keeps-push, push-keeps}
 use Rattle.reduce_model.specs.Building.{IsFirstOfWide, all_but_each, in_phase}
-use Rattle.reduce_model.specs.Passes.{IsFirstPrefix, IsIrredundant, IsNarrowList, IsWitnessed}
+use Rattle.reduce_model.specs.Joining.{AcceptsKept, Extends}
+use Rattle.reduce_model.specs.Keeping.{KeepsAll}
+use Rattle.reduce_model.specs.Passes.{AreFirstWitnesses, IsAutomatonOf, IsFirstPrefix, IsIrredundant, IsNarrowList, IsSought, IsSoughtFrom, IsWitnessed}
 use Rattle.reduce_model.specs.Reduction.{AreWitnesses, Breaks}
+use Rattle.reduce_model.specs.declared.grown.Sought.{Sought}
+use Rattle.reduce_model.specs.declared.prefixes.Prefix.{Prefix}
 
 -- the model without the constraint at a place
 abbrev pub but : ℕ → List Constraint → List Constraint
@@ -57,11 +68,11 @@ module _ (n s : ℕ) (model : List Constraint) (at : ℕ) (in_model : at < lengt
         narrow = rw more (all-append n s (take at (all_but_each [] model)) (but at model ∷ []) h.narrow (narrow, tt));
       }
 
-  pub witnessing-refused : (witnesses : List (List ℕ)) (size : ℕ) → IsWitnessing n s model at witnesses → IsFirstPrefix n s (but at model) size → IsFirstOfWide n s (in_phase 4 (all_but_each [] model)) 4 size
-  witnessing-refused witnesses size h first =
+  pub witnessing-refused : (size : ℕ) → AllByRecursion (IsNarrowList n s) (take at (all_but_each [] model)) → IsFirstPrefix n s (but at model) size → IsFirstOfWide n s (in_phase 4 (all_but_each [] model)) 4 size
+  witnessing-refused size narrow first =
       let split : all_but_each [] model ≡ take at (all_but_each [] model) ++ but at model ∷ drop (suc at) (all_but_each [] model) =
       sym (take-append-drop at (all_but_each [] model)) ∙ ap (λ (l : List (List Constraint)). take at (all_but_each [] model) ++ l) (all_but-at [] model at in_model) in
-      rw split (phase-first n s 4 (take at (all_but_each [] model)) (but at model) (drop (suc at) (all_but_each [] model)) size h.narrow first)
+      rw split (phase-first n s 4 (take at (all_but_each [] model)) (but at model) (drop (suc at) (all_but_each [] model)) size narrow first)
 
   pub not-missing : IsIrredundant n model → HasNoMember n (Breaks (but at model) (get_or model at anything)) → ⊥
   not-missing irredundant none = irredundant at (get_or model at anything) (slice_get-get_or model at anything in_model) none
@@ -84,8 +95,164 @@ witnessing-all n s model at witnesses e h =
       narrow = phase-narrow n s 4 (all_but_each [] model) (rw all_ at h.narrow);
     }
 
--- the list that the loop makes of the parts before a place and after it
-pub but-is : (model others new now : List Constraint) (place : ℕ) → others ≡ take place model → new ≡ others ++ take (length model - (place + 1)) (drop (place + 1) model) → now ≡ new → now ≡ but place model
-but-is model others new now place front all_ is =
-    let back : take (length model - (place + 1)) (drop (place + 1) model) ≡ drop (suc place) model = rw (take_rest model (place + 1), add-one) refl in
-    is ∙ (all_ ∙ (ap (λ (l : List Constraint). l ++ take (length model - (place + 1)) (drop (place + 1) model)) front ∙ ap (λ (l : List Constraint). take place model ++ l) back))
+-- ---- those that are known
+
+known-few : (n s : ℕ) (before after : List Constraint) (ws : List (List ℕ)) → AreFirstWitnesses n s before after ws → length ws ≤ length after
+known-few n s before after [] h = omega arith
+known-few n s before [] (w ∷ ws) h = absurd h
+known-few n s before (c ∷ after) (w ∷ ws) h = let ih = known-few n s (before ++ c ∷ []) after ws h.1 in omega (arith, ih)
+
+known-narrow : (n s : ℕ) (before after : List Constraint) (ws : List (List ℕ)) → AreFirstWitnesses n s before after ws → AllByRecursion (IsNarrowList n s) (take (length ws) (all_but_each before after))
+known-narrow n s before after [] h = tt
+known-narrow n s before [] (w ∷ ws) h = absurd h
+known-narrow n s before (c ∷ after) (w ∷ ws) h = (h.0.1, known-narrow n s (before ++ c ∷ []) after ws h.1)
+
+known-least : (n s : ℕ) (before after : List Constraint) (ws : List (List ℕ)) → AreFirstWitnesses n s before after ws → (k : ℕ) → k < length ws
+    → IsLeastMember n (Breaks ((before ++ take k after) ++ drop (suc k) after) (get_or after k anything)) (get_or ws k [])
+known-least n s before after [] h k lt = absurd (omega (arith, lt))
+known-least n s before [] (w ∷ ws) h k lt = absurd h
+known-least n s before (c ∷ after) (w ∷ ws) h zero lt = subst (λ (l : List Constraint). IsLeastMember n (Breaks (l ++ after) c) w) (sym (append-nil before)) h.0.0
+known-least n s before (c ∷ after) (w ∷ ws) h (suc k) lt =
+    subst (λ (l : List Constraint). IsLeastMember n (Breaks (l ++ drop (suc k) after) (get_or after k anything)) (get_or ws k [])) (append_assoc before (c ∷ []) (take k after))
+    (known-least n s (before ++ c ∷ []) after ws h.1 k (omega (arith, lt)))
+
+-- ---- the constraints before a place
+
+-- a list as a prefix of others
+pub record IsStart (n s : ℕ) (list : List Constraint) (prefix : Prefix) : Type 0 where
+  pub automaton : IsAutomatonOf n list prefix.dfa
+  pub counted : prefix.length ≡ length list
+  pub narrow : IsNarrowList n s list
+
+-- enough witnesses for the constraints before a place, and these constraints as a prefix
+pub record IsWitnessingAt (n s : ℕ) (model : List Constraint) (at : ℕ) (before : Prefix) (witnesses : List (List ℕ)) : Type 0 where
+  pub enough : at ≤ length witnesses
+  pub few : length witnesses ≤ length model
+  pub witnessing : IsWitnessing n s model (length witnesses) witnesses
+  pub start : at < length model → IsStart n s (take at model) before
+
+pub witnessing-known : (n s : ℕ) (model : List Constraint) (before : Prefix) (ws : List (List ℕ)) → 1 ≤ s → AreFirstWitnesses n s [] model ws → IsEverything n before.dfa → before.length ≡ 0
+    → IsWitnessingAt n s model 0 before ws
+witnessing-known n s model before ws some known every none = record {
+  enough = omega arith;
+  few = known-few n s [] model ws known;
+  witnessing = record {
+    as_many = refl;
+    least = known-least n s [] model ws known;
+    narrow = known-narrow n s [] model ws known;
+  };
+  start = λ lt. record {
+    automaton = every-automaton n before.dfa every;
+    counted = none;
+    narrow = λ size wide. empty-narrow n s some (rw (take-nil size) at wide);
+  };
+}
+
+all-less : (n s : ℕ) (lists : List (List Constraint)) (less most : ℕ) → less ≤ most → AllByRecursion (IsNarrowList n s) (take most lists) → AllByRecursion (IsNarrowList n s) (take less lists)
+all-less n s lists zero most le h = tt
+all-less n s [] (suc less) most le h = tt
+all-less n s (list ∷ lists) (suc less) zero le h = absurd (omega (arith, le))
+all-less n s (list ∷ lists) (suc less) (suc most) le h = (h.0, all-less n s lists less most (omega (arith, le)) h.1)
+
+module _ (n s : ℕ) (model : List Constraint) (at : ℕ) (in_model : at < length model) (before : Prefix) (ws : List (List ℕ)) (h : IsWitnessingAt n s model at before ws) where
+  pub narrow-at : AllByRecursion (IsNarrowList n s) (take at (all_but_each [] model))
+  narrow-at = all-less n s (all_but_each [] model) at (length ws) h.enough h.witnessing.narrow
+
+  pub at-sought : (c : Constraint) (r : Sought) → IsSoughtFrom s before.dfa before.length (drop (suc at) model) c r → IsSought n s (but at model) c r
+  at-sought c r found = let start = h.start in_model in sought n s (take at model) (drop (suc at) model) (but at model) before.dfa refl start.automaton start.narrow before.length start.counted c r found
+
+  pub at-length : before.length ≡ at
+  at-length = let start = h.start in_model in start.counted ∙ length-take-le at model (omega (arith, in_model))
+
+  abbrev c : Constraint
+  c = get_or model at anything
+
+  longer : take (at + 1) model ≡ take at model ++ c ∷ []
+  longer = take_more model at anything in_model
+
+  with_candidate : (w : List ℕ) → IsTrace n w → AcceptsKept before.dfa c w ↔ KeepsAll (take (at + 1) model) w
+  with_candidate w tw =
+      let start = h.start in_model in
+      let p = start.automaton.same w tw in
+      rw longer (λ both. push-keeps (take at model) c w (p.0 both.0) both.1, λ all. let parts = keeps-push (take at model) c w all in (p.1 parts.0, parts.1))
+
+  pub start-more : (more : Prefix) → s ≤ 65536 → Extends s before.dfa c more.dfa → more.length ≡ before.length + 1 → IsStart n s (take (at + 1) model) more
+  start-more more limit x long =
+      let start = h.start in_model in
+      record {
+        automaton = record {
+          over = x.over ∙ start.automaton.over;
+          same = λ w tw.
+              let there = x.same w (rw start.automaton.over tw) in
+              let here = with_candidate w tw in (λ is. here.0 (there.0 is), λ all. there.1 (here.1 all));
+          few = let few_ = x.few in omega (arith, few_, limit);
+        };
+        counted = long ∙ (ap (λ (k : ℕ). k + 1) at-length ∙ sym (length-take-le (at + 1) model (omega (arith, in_model))));
+        narrow = rw longer (narrow-push n s (take at model) c start.narrow
+            (λ wide. x.narrow (wide-over before.dfa.symbols n s (AcceptsKept before.dfa c) (KeepsAll (take (at + 1) model)) start.automaton.over with_candidate (rw longer wide))));
+      }
+
+  -- one more witness is known, as it is found or from before
+  pub at-found : (t : List ℕ) → length ws ≡ at → IsLeastMember n (Breaks (but at model) c) t → IsNarrowList n s (but at model) → IsWitnessingAt n s model at before (ws ++ t ∷ []) × (at + 1 ≤ length (ws ++ t ∷ []))
+  at-found t many least narrow =
+      let long = length_push ws t in
+      let old : IsWitnessing n s model at ws = subst (λ (k : ℕ). IsWitnessing n s model k ws) many h.witnessing in
+      let new : IsWitnessing n s model (at + 1) (ws ++ t ∷ []) = witnessing-more n s model at in_model ws t old least narrow in
+      let e : at + 1 ≡ length (ws ++ t ∷ []) = omega (arith, long, many) in (
+        record {
+          enough = omega (arith, e);
+          few = omega (arith, e, in_model);
+          witnessing = subst (λ (k : ℕ). IsWitnessing n s model k (ws ++ t ∷ [])) e new;
+          start = h.start;
+        },
+        omega (arith, e),
+      )
+
+  pub at-known : (length ws ≡ at → ⊥) → IsWitnessingAt n s model at before ws × (at + 1 ≤ length ws)
+  at-known more = let enough = h.enough in (h, omega (arith, enough, more))
+
+  -- the next place
+  pub next-last : at + 1 ≤ length ws → length model ≤ at + 1 → IsWitnessingAt n s model (at + 1) before ws
+  next-last enough last = record {
+    enough = enough;
+    few = h.few;
+    witnessing = h.witnessing;
+    start = λ lt. absurd (omega (arith, lt, last));
+  }
+
+  pub next-more : (more : Prefix) → at + 1 ≤ length ws → IsStart n s (take (at + 1) model) more → IsWitnessingAt n s model (at + 1) more ws
+  next-more more enough start = record {
+    enough = enough;
+    few = h.few;
+    witnessing = h.witnessing;
+    start = λ lt. start;
+  }
+
+  -- the constraints up to a place are wide: the others of the next one begin with them
+  pub start-refused : at + 1 < length model → (size : ℕ) → size ≡ before.length + 1 → at + 1 ≤ length ws → IsWide before.dfa.symbols (AcceptsKept before.dfa c) s → IsFirstOfWide n s (in_phase 4 (all_but_each [] model)) 4 size
+  start-refused more size long enough wide =
+      let start = h.start in_model in
+      let wide_ : IsWide n (KeepsAll (take (at + 1) model)) s = over-wide before.dfa.symbols n s (AcceptsKept before.dfa c) (KeepsAll (take (at + 1) model)) start.automaton.over with_candidate wide in
+      let front = length-take-le (at + 1) model (omega (arith, more)) in
+      let both = length-append (take (at + 1) model) (drop (suc (at + 1)) model) in
+      let cut : take (at + 1) (but (at + 1) model) ≡ take (at + 1) model =
+      take-append-le (at + 1) (take (at + 1) model) (drop (suc (at + 1)) model) (omega (arith, front)) ∙ take_all (at + 1) (take (at + 1) model) (omega (arith, front)) in
+      let size_is : size ≡ at + 1 = long ∙ ap (λ (k : ℕ). k + 1) at-length in
+      rw size_is (witnessing-refused n s model (at + 1) more (at + 1) (all-less n s (all_but_each [] model) (at + 1) (length ws) enough h.witnessing.narrow) (record {
+        within = omega (arith, front, both);
+        wide = rw cut wide_;
+        first = λ less lt is.
+            let part : take less (but (at + 1) model) ≡ take less (take at model) =
+            take-append-le less (take (at + 1) model) (drop (suc (at + 1)) model) (omega (arith, front, lt)) ∙ (take-take less (at + 1) model (omega (arith, lt)) ∙ sym (take-take less at model (omega (arith, lt)))) in
+            start.narrow less (rw part at is);
+      }))
+
+-- the part of a model behind a place
+pub behind-is : (model : List Constraint) (place : ℕ) → take (length model - (place + 1)) (drop (place + 1) model) ≡ drop (suc place) model
+behind-is model place = rw (take_rest model (place + 1), add-one) refl
+
+pub witnessing-end : (n s : ℕ) (model : List Constraint) (at : ℕ) (before : Prefix) (ws : List (List ℕ)) → length model ≤ at → IsWitnessingAt n s model at before ws → IsWitnessed n s model ws
+witnessing-end n s model at before ws past h =
+    let enough = h.enough in
+    let few = h.few in
+    witnessing-all n s model (length ws) ws (omega (arith, enough, few, past)) h.witnessing

@@ -1,17 +1,16 @@
 -- A list of constraints as it is carried, and one more that may join it.
 use Rattle.std.specs.Prelude.{◌≡◌, ℕ, ◌+◌, ◌≤◌, List, ◌↔◌}
-use Rattle.dfa_core.specs.Automaton.{Automaton, Accepts, IsBreadthFirst, state_count}
+use Rattle.dfa_core.specs.Automaton.{Automaton, Accepts, state_count}
 use Rattle.dfa_core.specs.Languages.{HasNoMember, IsLeastMember}
 use Rattle.dfa_core.specs.Traces.{IsTrace}
-use Rattle.dfa_minimise.specs.Least.{IsLeast}
 use Rattle.dfa_minimise.specs.Wide.{IsWide}
 use Rattle.template_core.specs.declared.constraint.Constraint.{Constraint}
 use Rattle.reduce_model.specs.Keeping.{KeepsOne}
 use Rattle.reduce_model.specs.declared.kept.Joined.{Joined}
-use Rattle.reduce_model.specs.declared.kept.Joined.TheVariants.{Joins, Wide, Conflicts}
+use Rattle.reduce_model.specs.declared.kept.Joined.TheVariants.{Implied, Joins, Wide, Conflicts}
 use Rattle.reduce_model.specs.declared.kept.KeptList.{KeptList}
 use Rattle.reduce_model.specs.declared.kept.Tried.{Tried}
-use Rattle.reduce_model.specs.declared.kept.Tried.TheVariants.{Implied, Left, TooWide}
+use Rattle.reduce_model.specs.declared.kept.Tried.TheVariants.{Implied as ImpliedBy, Left, TooWide}
 
 -- what an automaton accepts that keeps the constraint too, and what of it breaks the constraint
 abbrev pub AcceptsKept : Automaton → Constraint → List ℕ → Type 0
@@ -20,12 +19,17 @@ AcceptsKept a c w = Accepts a w × KeepsOne c w
 abbrev pub AcceptsBroken : Automaton → Constraint → List ℕ → Type 0
 AcceptsBroken a c w = Accepts a w × (KeepsOne c w → ⊥)
 
--- the least automaton of that
+-- an automaton of that
 pub record IsNarrowed (a : Automaton) (c : Constraint) (narrowed : Automaton) : Type 0 where
   pub over : narrowed.symbols ≡ a.symbols
   pub same : (w : List ℕ) → IsTrace a.symbols w → Accepts narrowed w ↔ AcceptsKept a c w
-  pub least : IsLeast narrowed
-  pub order : IsBreadthFirst narrowed
+
+-- an automaton of the same traces, which is narrow for s
+pub record IsFitted (s : ℕ) (a fitted : Automaton) : Type 0 where
+  pub over : fitted.symbols ≡ a.symbols
+  pub same : (w : List ℕ) → IsTrace a.symbols w → Accepts fitted w ↔ Accepts a w
+  pub narrow : IsWide a.symbols (Accepts a) s → ⊥
+  pub few : state_count fitted ≤ s
 
 -- the automaton with the constraint is narrow for s
 pub record Extends (s : ℕ) (a : Automaton) (c : Constraint) (extended : Automaton) : Type 0 where
@@ -48,12 +52,13 @@ pub record IsTooWide (s : ℕ) (a : Automaton) (c : Constraint) : Type 0 where
 
 -- what comes of a candidate at the end of the list
 abbrev pub IsJoined : ℕ → KeptList → Constraint → Joined → Type 0
+IsJoined s old c Implied = HasNoMember old.dfa.symbols (AcceptsBroken old.dfa c)
 IsJoined s old c (Joins new) = JoinsKept s old c new
 IsJoined s old c Wide = IsTooWide s old.dfa c
 IsJoined s old c Conflicts = HasNoMember old.dfa.symbols (AcceptsKept old.dfa c)
 
 -- whether the list implies the candidate, and what comes of the list with it where not
 abbrev pub IsTried : ℕ → Automaton → Constraint → Tried → Type 0
-IsTried s a c Implied = HasNoMember a.symbols (AcceptsBroken a c)
+IsTried s a c ImpliedBy = HasNoMember a.symbols (AcceptsBroken a c)
 IsTried s a c (Left extended) = Extends s a c extended × ((w : List ℕ) × IsTrace a.symbols w × AcceptsBroken a c w)
 IsTried s a c TooWide = IsWide a.symbols (AcceptsKept a c) s × ((w : List ℕ) × IsTrace a.symbols w × AcceptsBroken a c w)

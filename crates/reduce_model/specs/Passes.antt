@@ -1,5 +1,6 @@
 -- What each step of the reduction is given and what it makes of the decisions: internal to the crate.
-use Rattle.std.specs.Prelude.{◌≡◌, ◌↔◌, ℕ, suc, ◌<◌, ◌≤◌, List, [], ◌++◌, Some, length, map, take, drop, slice_get, ⊤}
+use Rattle.std.specs.List.{All as Every, HoldsAt}
+use Rattle.std.specs.Prelude.{◌≡◌, ◌↔◌, ℕ, suc, ◌+◌, ◌<◌, ◌≤◌, List, [], ◌∷◌, ◌++◌, Bool, Some, length, map, take, drop, slice_get, ⊤}
 use Rattle.decl_base.specs.declared.refusal.Refusal.{Refusal}
 use Rattle.decl_base.specs.declared.refusal.Refusal.TheVariants.{States, Memory}
 use Rattle.dfa_core.specs.Automaton.{Automaton, Accepts, state_count}
@@ -8,8 +9,8 @@ use Rattle.dfa_core.specs.Traces.{IsTrace}
 use Rattle.dfa_minimise.specs.Wide.{IsWide}
 use Rattle.template_core.specs.declared.constraint.Constraint.{Constraint}
 use Rattle.reduce_model.specs.Building.{AreNarrow, IsFirstOfWide, all_but_each, in_phase, tests, up_to_each}
-use Rattle.reduce_model.specs.Deciding.{is_left, is_strongest, those}
-use Rattle.reduce_model.specs.Keeping.{KeepsAll}
+use Rattle.reduce_model.specs.Deciding.{is_left, is_strongest, marked, those}
+use Rattle.reduce_model.specs.Keeping.{KeepsAll, KeepsOne}
 use Rattle.reduce_model.specs.Reduction.{AreWitnesses, Breaks, IsReduction, TellsFirstPass, TellsSecondPass, TellsWeaker}
 use Rattle.reduce_model.specs.Sifting.{kept_of}
 use Rattle.reduce_model.specs.declared.decision.Decision.{Decision}
@@ -18,6 +19,7 @@ use Rattle.reduce_model.specs.declared.grown.Grown.{Grown}
 use Rattle.reduce_model.specs.declared.grown.Grown.TheVariants.{All, Wide}
 use Rattle.reduce_model.specs.declared.grown.Sought.{Sought}
 use Rattle.reduce_model.specs.declared.grown.Sought.TheVariants.{Found, Missing, TooWide}
+use Rattle.reduce_model.specs.declared.prefixes.Prefix.{Prefix}
 
 -- a decision without the marks of pruning and of what comes after it, of the first pass and the second, of the second alone
 abbrev pub before_pruning : Decision → Decision
@@ -89,12 +91,16 @@ pub record IsImpliedDropped (n s : ℕ) (list : List Constraint) (old new : List
 abbrev pub AcceptsAll : Automaton → List Constraint → List ℕ → Type 0
 AcceptsAll a list w = Accepts a w × KeepsAll list w
 
+-- no part of a list with one or more of its constraints is wide
+abbrev pub IsNarrowFrom : ℕ → Automaton → List Constraint → Type 0
+IsNarrowFrom s a list = (size : ℕ) → 0 < size → size ≤ length list → IsWide a.symbols (AcceptsAll a (take size list)) s → ⊥
+
 -- an automaton joined with a list: no part of it with one or more of the constraints is wide
 pub record IsGrownBy (s : ℕ) (a : Automaton) (list : List Constraint) (grown : Automaton) : Type 0 where
   pub over : grown.symbols ≡ a.symbols
   pub same : (w : List ℕ) → IsTrace a.symbols w → Accepts grown w ↔ AcceptsAll a list w
   pub few : state_count grown ≤ 65536
-  pub narrow : (size : ℕ) → 0 < size → size ≤ length list → IsWide a.symbols (AcceptsAll a (take size list)) s → ⊥
+  pub narrow : IsNarrowFrom s a list
 
 -- or the first part that is
 pub record IsWideFrom (s : ℕ) (a : Automaton) (list : List Constraint) (size : ℕ) : Type 0 where
@@ -111,6 +117,13 @@ IsGrown s a list (Wide size) = IsWideFrom s a list size
 abbrev pub IsNarrowList : ℕ → ℕ → List Constraint → Type 0
 IsNarrowList n s list = (size : ℕ) → IsWide n (KeepsAll (take size list)) s → ⊥
 
+-- For some constraints that come after a list, from the first on, the least trace that keeps all the others and breaks it. The others are narrow.
+abbrev pub AreFirstWitnesses : ℕ → ℕ → List Constraint → List Constraint → List (List ℕ) → Type 0
+AreFirstWitnesses n s before after [] = ⊤
+AreFirstWitnesses n s before [] (w ∷ witnesses) = ⊥
+AreFirstWitnesses n s before (c ∷ after) (w ∷ witnesses) =
+    (IsLeastMember n (Breaks (before ++ after) c) w × IsNarrowList n s (before ++ after)) × AreFirstWitnesses n s (before ++ c ∷ []) after witnesses
+
 pub record IsFirstPrefix (n s : ℕ) (list : List Constraint) (size : ℕ) : Type 0 where
   pub within : size ≤ length list
   pub wide : IsWide n (KeepsAll (take size list)) s
@@ -121,3 +134,37 @@ abbrev pub IsSought : ℕ → ℕ → List Constraint → Constraint → Sought 
 IsSought n s list c (Found trace) = IsLeastMember n (Breaks list c) trace × IsNarrowList n s list
 IsSought n s list c Missing = HasNoMember n (Breaks list c) × IsNarrowList n s list
 IsSought n s list c (TooWide size) = IsFirstPrefix n s list size
+
+-- a list as an automaton
+pub record IsAutomatonOf (n : ℕ) (list : List Constraint) (a : Automaton) : Type 0 where
+  pub over : a.symbols ≡ n
+  pub same : (w : List ℕ) → IsTrace n w → Accepts a w ↔ KeepsAll list w
+  pub few : state_count a ≤ 65536
+
+-- the constraints before a place that have a mark, as an automaton: neither they nor fewer of them are wide for s
+pub record IsPrefixOf (n s : ℕ) (list : List Constraint) (marks : List Bool) (prefix : Prefix) : Type 0 where
+  pub within : prefix.place ≤ length list
+  pub automaton : IsAutomatonOf n (marked (take prefix.place marks) (take prefix.place list)) prefix.dfa
+  pub counted : prefix.length ≡ length (marked (take prefix.place marks) (take prefix.place list))
+  pub narrow : IsNarrowList n s (marked (take prefix.place marks) (take prefix.place list))
+
+-- some such prefixes, the first of them without a constraint
+pub record AreKeptPrefixes (n s : ℕ) (list : List Constraint) (marks : List Bool) (prefixes : List Prefix) : Type 0 where
+  pub some : 0 < length prefixes
+  pub first : HoldsAt (λ (prefix : Prefix). prefix.place ≡ 0) prefixes 0
+  pub are : Every (IsPrefixOf n s list marks) prefixes
+
+-- what an automaton accepts that keeps a list too and breaks a constraint
+abbrev pub AcceptsBreaks : Automaton → List Constraint → Constraint → List ℕ → Type 0
+AcceptsBreaks a list c w = AcceptsAll a list w × (KeepsOne c w → ⊥)
+
+-- the least such trace, or the first part of the list that is wide: its length is counted on
+pub record IsWideAfter (s : ℕ) (a : Automaton) (before : ℕ) (list : List Constraint) (size : ℕ) : Type 0 where
+  pub count : ℕ
+  pub counted : size ≡ before + count
+  pub from : IsWideFrom s a list count
+
+abbrev pub IsSoughtFrom : ℕ → Automaton → ℕ → List Constraint → Constraint → Sought → Type 0
+IsSoughtFrom s a before list c (Found trace) = IsLeastMember a.symbols (AcceptsBreaks a list c) trace × IsNarrowFrom s a list
+IsSoughtFrom s a before list c Missing = HasNoMember a.symbols (AcceptsBreaks a list c) × IsNarrowFrom s a list
+IsSoughtFrom s a before list c (TooWide size) = IsWideAfter s a before list size

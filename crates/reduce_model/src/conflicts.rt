@@ -30,8 +30,13 @@ pub fn sift(
         example: Trace::of(alloc, &[])?,
     };
     let mut decisions = Vec::new(alloc);
+    let mut last = 1;
     for candidate in list {
-        match kept.joined(alloc, candidate, states)? {
+        match kept.joined(alloc, candidate, states, &mut last)? {
+            Joined::Implied => {
+                kept.length += 1;
+                decisions.push(Decision::Kept)?;
+            }
             Joined::Joins(joined) => {
                 kept = joined;
                 decisions.push(Decision::Kept)?;

@@ -1,38 +1,58 @@
-ghost use Rattle.std.specs.Prelude.{◌≡◌, ◌≤◌, length, map, All, OnOk, IfErr};
+ghost use Rattle.std.specs.Prelude.{◌≡◌, ◌≤◌, length, map, All, IfOk, IfErr};
 ghost use Rattle.template_core.specs.Constraints.{IsWellMadeFor};
-ghost use Rattle.reduce_model.specs.Passes.{before_first_pass, IsFirstPassed, RefusesFirstPass};
+ghost use Rattle.reduce_model.specs.Deciding.{is_left};
+ghost use Rattle.reduce_model.specs.Passes.{before_first_pass, AreKeptPrefixes, IsFirstPassed, RefusesFirstPass};
 
 use crate::Decision;
 use crate::kept::{Tried, try_candidate};
+use crate::prefixes::{Prefix, keep};
 use decl_base::Refusal;
 use dfa_core::Dfa;
 use std::alloc::Global;
 use template_core::Constraint;
 
-/// Marks, from the first to the last, each candidate that those before it imply which are left.
+/// The tables of all prefixes that are kept have at most so many entries.
+const MOST_ENTRIES: u64 = 67_108_864;
+
+/// Marks, from the first to the last, each candidate that those before it imply which are left. Gives what is left, as it arises.
 pub(crate) fn pass_first(
     alloc: Global,
     list: &[Constraint],
     symbols: u32,
     states: u64,
     decisions: &mut [Decision],
-) -> Result<(), Refusal>
+) -> Result<Vec<Prefix>, Refusal>
     requires made { All (IsWellMadeFor symbols) list.now }
     requires as_many { length decisions.old ≡ length list.now }
     requires few { length list.now ≤ 65536 }
     requires some_states { 1 ≤ states }
     requires few_states { states ≤ 65536 }
     requires pruned { map before_first_pass decisions.old ≡ decisions.old }
-    ensures ok { OnOk result (IsFirstPassed symbols states list.now decisions.old decisions.new) }
+    ensures ok { IfOk result (λ prefixes. IsFirstPassed symbols states list.now decisions.old decisions.new) }
+    ensures kept { IfOk result (λ prefixes. AreKeptPrefixes symbols states list.now (map is_left decisions.new) prefixes.items) }
     ensures err { IfErr result (RefusesFirstPass symbols states list.now decisions.old) }
 {
     let mut left = Dfa::everything(alloc, symbols)?;
     let mut length = 0;
+    let mut prefixes = Vec::new(alloc);
+    prefixes.push(Prefix {
+        dfa: Dfa::everything(alloc, symbols)?,
+        place: 0,
+        length,
+    })?;
+    let mut spare = MOST_ENTRIES;
+    let mut last = 1;
     for place in 0..list.len() {
         if decisions[place].is_kept() {
-            match try_candidate(alloc, &left, &list[place], states)? {
+            match try_candidate(alloc, &left, &list[place], states, &mut last)? {
                 Tried::Implied => decisions[place] = Decision::FirstPass,
                 Tried::Left(more) => {
+                    let prefix = Prefix {
+                        dfa: left,
+                        place,
+                        length,
+                    };
+                    keep(&mut prefixes, &mut spare, prefix)?;
                     left = more;
                     length += 1;
                 }
@@ -45,5 +65,5 @@ pub(crate) fn pass_first(
             }
         }
     }
-    Ok(())
+    Ok(prefixes)
 }

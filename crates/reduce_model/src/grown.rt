@@ -1,11 +1,12 @@
-ghost use Rattle.std.specs.Prelude.{◌≡◌, ◌≤◌, length, All, IfOk, IfErr};
+ghost use Rattle.std.specs.Prelude.{◌≡◌, ◌+◌, ◌≤◌, length, All, IfOk, IfErr};
 ghost use Rattle.dfa_core.specs.Automaton.{state_count};
 ghost use Rattle.template_core.specs.Constraints.{IsWellMadeFor};
-ghost use Rattle.reduce_model.specs.Passes.{IsGrown, IsSought};
+ghost use Rattle.reduce_model.specs.Passes.{IsGrown, IsSoughtFrom};
 
 use crate::kept::{extended, first_broken};
+use crate::prefixes::Prefix;
 use decl_base::{Refusal, Trace};
-use dfa_core::Dfa;
+use dfa_core::{Dfa, reachable};
 use std::alloc::Global;
 use template_core::Constraint;
 
@@ -25,30 +26,31 @@ pub(crate) enum Sought {
     Found(Trace),
     /// It does.
     Missing,
-    /// So many constraints of the list tell too many traces apart.
+    /// So many constraints tell too many traces apart.
     TooWide(u32),
 }
 
 /// Joins an automaton with a list of constraints.
 fn grow(
     alloc: Global,
-    start: Dfa,
+    start: &Dfa,
     list: &[Constraint],
     symbols: u32,
     states: u64,
 ) -> Result<Grown, Refusal>
     requires made { All (IsWellMadeFor symbols) list.now }
-    requires few { state_count start ≤ 65536 }
+    requires few { state_count start.now ≤ 65536 }
     requires short { length list.now ≤ 65536 }
     requires few_states { states ≤ 65536 }
-    ensures ok { IfOk result (IsGrown states start list.now) }
+    ensures ok { IfOk result (IsGrown states start.now list.now) }
     ensures err { IfErr result (λ e. e ≡ Refusal.Memory) }
 {
-    let mut dfa = start;
+    let mut last = start.states();
+    let mut dfa = reachable(alloc, start)?;
     let mut count = 0;
     for constraint in list {
         count += 1;
-        match extended(alloc, &dfa, constraint, states)? {
+        match extended(alloc, &dfa, constraint, states, &mut last)? {
             Some(more) => dfa = more,
             None => return Ok(Grown::Wide(count)),
         }
@@ -56,9 +58,10 @@ fn grow(
     Ok(Grown::All(dfa))
 }
 
-/// Looks for the least trace that keeps a list and breaks a constraint.
+/// Looks for the least trace that keeps a prefix and a list and breaks a constraint.
 pub(crate) fn seek(
     alloc: Global,
+    start: &Prefix,
     list: &[Constraint],
     constraint: &Constraint,
     symbols: u32,
@@ -66,18 +69,17 @@ pub(crate) fn seek(
 ) -> Result<Sought, Refusal>
     requires made { All (IsWellMadeFor symbols) list.now }
     requires candidate { IsWellMadeFor symbols constraint.now }
-    requires short { length list.now ≤ 65536 }
-    requires some_states { 1 ≤ states }
+    requires few { state_count start.now.dfa ≤ 65536 }
+    requires short { start.now.length + length list.now ≤ 65536 }
     requires few_states { states ≤ 65536 }
-    ensures ok { IfOk result (IsSought symbols states list.now constraint.now) }
+    ensures ok { IfOk result (IsSoughtFrom states start.now.dfa start.now.length list.now constraint.now) }
     ensures err { IfErr result (λ e. e ≡ Refusal.Memory) }
 {
-    let all = Dfa::everything(alloc, symbols)?;
-    match grow(alloc, all, list, symbols, states)? {
+    match grow(alloc, &start.dfa, list, symbols, states)? {
         Grown::All(dfa) => match first_broken(alloc, &dfa, constraint)? {
             Some(trace) => Ok(Sought::Found(trace)),
             None => Ok(Sought::Missing),
         },
-        Grown::Wide(count) => Ok(Sought::TooWide(count)),
+        Grown::Wide(count) => Ok(Sought::TooWide(start.length + count)),
     }
 }

@@ -1,9 +1,9 @@
 ghost use Rattle.std.specs.Prelude.{◌≡◌, ◌+◌, ◌<◌, ◌≤◌, ◌^◌, IfOk, IfErr, MatchOption};
-ghost use Rattle.dfa_core.specs.Automaton.{state_count};
+ghost use Rattle.dfa_core.specs.Automaton.{Accepts, state_count};
 ghost use Rattle.dfa_core.specs.Languages.{HasNoMember, IsLeastMember};
 ghost use Rattle.dfa_minimise.specs.Wide.{IsWide};
 ghost use Rattle.template_core.specs.Constraints.{IsWellMade};
-ghost use Rattle.reduce_model.specs.Joining.{AcceptsBroken, AcceptsKept, Extends, IsJoined, IsNarrowed, IsTried};
+ghost use Rattle.reduce_model.specs.Joining.{AcceptsBroken, AcceptsKept, Extends, IsFitted, IsJoined, IsNarrowed, IsTried};
 
 use decl_base::{Refusal, Trace};
 use dfa_core::Dfa;
@@ -25,6 +25,8 @@ pub(crate) struct KeptList {
 /// What comes of a candidate at the end of a list.
 #[derive(Drop)]
 pub(crate) enum Joined {
+    /// The list implies it: with the candidate it has the same traces.
+    Implied,
     /// The list with the candidate.
     Joins(KeptList),
     /// Some trace keeps the list and the candidate, and together they tell too many traces apart.
@@ -51,6 +53,7 @@ impl KeptList {
         alloc: Global,
         candidate: &Constraint,
         states: u64,
+        last: &mut u32,
     ) -> Result<Joined, Refusal>
         requires made { IsWellMade candidate.now.kind candidate.now.first candidate.now.second }
         requires few { state_count self.now.dfa ≤ 65536 }
@@ -58,18 +61,21 @@ impl KeptList {
         ensures ok { IfOk result (IsJoined states self.now candidate.now) }
         ensures err { IfErr result (λ e. e ≡ Refusal.Memory) }
     {
-        let dfa = narrowed(alloc, &self.dfa, candidate)?;
-        let Some(example) = first_trace(alloc, &dfa, &Want::Accepted)? else {
+        if first_broken(alloc, &self.dfa, candidate)?.is_none() {
+            return Ok(Joined::Implied);
+        }
+        let both = narrowed(alloc, &self.dfa, candidate)?;
+        let Some(example) = first_trace(alloc, &both, &Want::Accepted)? else {
             return Ok(Joined::Conflicts);
         };
-        if is_wide(&dfa, states) {
-            return Ok(Joined::Wide);
+        match fitted(alloc, both, states, last)? {
+            Some(dfa) => Ok(Joined::Joins(KeptList {
+                dfa,
+                length: self.length + 1,
+                example,
+            })),
+            None => Ok(Joined::Wide),
         }
-        Ok(Joined::Joins(KeptList {
-            dfa,
-            length: self.length + 1,
-            example,
-        }))
     }
 }
 
@@ -79,6 +85,7 @@ pub(crate) fn try_candidate(
     dfa: &Dfa,
     candidate: &Constraint,
     states: u64,
+    last: &mut u32,
 ) -> Result<Tried, Refusal>
     requires made { IsWellMade candidate.now.kind candidate.now.first candidate.now.second }
     requires few { state_count dfa.now ≤ 65536 }
@@ -88,7 +95,7 @@ pub(crate) fn try_candidate(
     if first_broken(alloc, dfa, candidate)?.is_none() {
         return Ok(Tried::Implied);
     }
-    match extended(alloc, dfa, candidate, states)? {
+    match extended(alloc, dfa, candidate, states, last)? {
         Some(dfa) => Ok(Tried::Left(dfa)),
         None => Ok(Tried::TooWide),
     }
@@ -118,20 +125,18 @@ pub(crate) fn extended(
     dfa: &Dfa,
     constraint: &Constraint,
     states: u64,
+    last: &mut u32,
 ) -> Result<Option<Dfa>, Refusal>
     requires made { IsWellMade constraint.now.kind constraint.now.first constraint.now.second }
     requires few { state_count dfa.now ≤ 65536 }
     ensures ok { IfOk result (λ extended. MatchOption extended (IsWide dfa.now.symbols (AcceptsKept dfa.now constraint.now) states) (Extends states dfa.now constraint.now)) }
     ensures err { IfErr result (λ e. e ≡ Refusal.Memory) }
 {
-    let extended = narrowed(alloc, dfa, constraint)?;
-    if is_wide(&extended, states) {
-        return Ok(None);
-    }
-    Ok(Some(extended))
+    let both = narrowed(alloc, dfa, constraint)?;
+    fitted(alloc, both, states, last)
 }
 
-/// The least automaton of the traces that an automaton accepts and that keep a constraint.
+/// The automaton of the traces that an automaton accepts and that keep a constraint.
 fn narrowed(alloc: Global, dfa: &Dfa, constraint: &Constraint) -> Result<Dfa, Refusal>
     requires made { IsWellMade constraint.now.kind constraint.now.first constraint.now.second }
     requires few { state_count dfa.now ≤ 65536 }
@@ -139,6 +144,23 @@ fn narrowed(alloc: Global, dfa: &Dfa, constraint: &Constraint) -> Result<Dfa, Re
     ensures err { IfErr result (λ e. e ≡ Refusal.Memory) }
 {
     let table = table_of(constraint.kind);
-    let both = meet(alloc, dfa, &table, constraint)?;
-    least(alloc, &both)
+    meet(alloc, dfa, &table, constraint)
+}
+
+/// An automaton of the same traces, or None where they tell more traces apart than `states`. It is made least where it has more than twice
+/// as many states as the last one that was, whose number of states is `last`: few states tell few traces apart.
+fn fitted(alloc: Global, dfa: Dfa, states: u64, last: &mut u32) -> Result<Option<Dfa>, Refusal>
+    ensures ok { IfOk result (λ fitted. MatchOption fitted (IsWide dfa.symbols (Accepts dfa) states) (IsFitted states dfa)) }
+    ensures err { IfErr result (λ e. e ≡ Refusal.Memory) }
+{
+    let count = dfa.states();
+    if count / 2 <= *last && count as u64 <= states {
+        return Ok(Some(dfa));
+    }
+    let fewest = least(alloc, &dfa)?;
+    if is_wide(&fewest, states) {
+        return Ok(None);
+    }
+    *last = fewest.states();
+    Ok(Some(fewest))
 }

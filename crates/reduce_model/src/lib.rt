@@ -8,6 +8,7 @@ mod grown;
 mod kept;
 mod laws;
 mod others;
+mod prefixes;
 mod pruning;
 mod reduction;
 mod second_pass;

@@ -59,9 +59,9 @@ fn drop_implied(
     ensures err { IfErr result (RefusesReduction symbols states list.now) }
 {
     prune(list, decisions);
-    pass_first(alloc, list, symbols, states, decisions)?;
-    pass_second(alloc, list, symbols, states, decisions)?;
+    let prefixes = pass_first(alloc, list, symbols, states, decisions)?;
+    let found = pass_second(alloc, list, symbols, states, &prefixes, decisions)?;
     let mut model = Vec::new(alloc);
     push_kept(list, decisions, &mut model)?;
-    witnesses_of(alloc, &model, symbols, states)
+    witnesses_of(alloc, &model, symbols, states, found)
 }

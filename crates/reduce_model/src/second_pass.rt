@@ -1,60 +1,73 @@
-ghost use Rattle.std.specs.Prelude.{◌≡◌, ◌≤◌, ◌<◌, ◌++◌, length, map, All, OnOk, IfOk, IfErr};
+ghost use Rattle.std.specs.Prelude.{◌≡◌, ◌≤◌, ◌<◌, ◌++◌, [], length, map, take, drop, All, IfOk, IfErr};
 ghost use Rattle.template_core.specs.Constraints.{IsWellMadeFor};
-ghost use Rattle.reduce_model.specs.Deciding.{after, before, is_kept};
-ghost use Rattle.reduce_model.specs.Passes.{before_second_pass, IsSecondPassed, RefusesSecondPass};
+ghost use Rattle.reduce_model.specs.Deciding.{after, is_kept, is_left, marked, those};
+ghost use Rattle.reduce_model.specs.Passes.{before_second_pass, AreFirstWitnesses, AreKeptPrefixes, IsSecondPassed, RefusesSecondPass};
 
 use crate::Decision;
 use crate::grown::{Sought, seek};
 use crate::others::push_kept;
-use decl_base::Refusal;
+use crate::prefixes::{Prefix, longest_before};
+use decl_base::{Refusal, Trace};
 use std::alloc::{AllocError, Global};
 use template_core::Constraint;
 
-/// Marks, from the last to the first, each candidate that the others imply which still stand.
+/// Marks, from the last to the first, each candidate that the others imply which still stand. Gives the witnesses of the model for its first
+/// constraints: a test has all the others of the model where nothing before it is dropped later.
 pub(crate) fn pass_second(
     alloc: Global,
     list: &[Constraint],
     symbols: u32,
     states: u64,
+    prefixes: &[Prefix],
     decisions: &mut [Decision],
-) -> Result<(), Refusal>
+) -> Result<Vec<Trace>, Refusal>
     requires made { All (IsWellMadeFor symbols) list.now }
     requires as_many { length decisions.old ≡ length list.now }
     requires few { length list.now ≤ 65536 }
     requires some_states { 1 ≤ states }
     requires few_states { states ≤ 65536 }
+    requires kept { AreKeptPrefixes symbols states list.now (map is_left decisions.old) prefixes.now }
     requires passed { map before_second_pass decisions.old ≡ decisions.old }
-    ensures ok { OnOk result (IsSecondPassed symbols states list.now decisions.old decisions.new) }
+    ensures ok { IfOk result (λ found. IsSecondPassed symbols states list.now decisions.old decisions.new) }
+    ensures found { IfOk result (λ found. AreFirstWitnesses symbols states [] (those is_kept list.now decisions.new) found.items) }
     ensures err { IfErr result (RefusesSecondPass symbols states list.now decisions.old) }
 {
+    let mut found = Vec::new(alloc);
     let mut place = list.len();
     while place > 0 {
         place -= 1;
         if decisions[place].is_kept() {
-            let others = all_but(alloc, list, decisions, place)?;
-            match seek(alloc, &others, &list[place], symbols, states)? {
-                Sought::Found(_) => {}
-                Sought::Missing => decisions[place] = Decision::SecondPass,
+            let start = &prefixes[longest_before(prefixes, place)];
+            let others = others_from(alloc, list, decisions, start.place, place)?;
+            match seek(alloc, start, &others, &list[place], symbols, states)? {
+                Sought::Found(trace) => found.push(trace)?,
+                Sought::Missing => {
+                    decisions[place] = Decision::SecondPass;
+                    found.clear();
+                }
                 Sought::TooWide(built) => return Err(Refusal::States { phase: 3, built }),
             }
         }
     }
-    Ok(())
+    found.reverse();
+    Ok(found)
 }
 
-/// The candidates that stand, but for the one at a place.
-fn all_but(
+/// The candidates that stand from a place on, but for the one at another.
+fn others_from(
     alloc: Global,
     list: &[Constraint],
     decisions: &[Decision],
+    from: usize,
     place: usize,
 ) -> Result<Vec<Constraint>, AllocError>
     requires as_many { length decisions.now ≡ length list.now }
+    requires order { from ≤ place }
     requires there { place < length list.now }
-    ensures { IfOk result (λ others. others.items ≡ before is_kept place list.now decisions.now ++ after is_kept place list.now decisions.now) }
+    ensures { IfOk result (λ others. others.items ≡ marked (drop from (take place (map is_kept decisions.now))) (drop from (take place list.now)) ++ after is_kept place list.now decisions.now) }
 {
     let mut others = Vec::new(alloc);
-    push_kept(&list[..place], &decisions[..place], &mut others)?;
+    push_kept(&list[from..place], &decisions[from..place], &mut others)?;
     push_kept(&list[place + 1..], &decisions[place + 1..], &mut others)?;
     Ok(others)
 }

@@ -1,12 +1,17 @@
 use Rattle.std.proofs.Common.{get_or, refl, arith}
 use Rattle.std.proofs.lemmas.List.{take_all, take_more}
 use Rattle.reduce_model.proofs.Marks.{anything}
-use Rattle.reduce_model.proofs.Sifts.{so_far-all, so_far-conflict, so_far-kept, so_far-length, so_far-refused}
+use Rattle.reduce_model.proofs.Sifts.{so_far-all, so_far-conflict, so_far-implied, so_far-kept, so_far-length, so_far-refused}
 use Rattle.reduce_model.proofs.conflicts.sift.Goals as goal
-use Rattle.reduce_model.proofs.conflicts.sift.Goals.{in-Joins+in_ok-push-in-Joins, in-Conflicts+in_ok-push-in-Conflicts}
+use Rattle.reduce_model.proofs.conflicts.sift.Goals.{in-Implied+in_ok-push-in-Implied, in-Joins+in_ok-push-in-Joins, in-Conflicts+in_ok-push-in-Conflicts}
 
 pub joined-requires-clause-room : goal.joined-requires-clause-room
 joined-requires-clause-room c =
+    let le = so_far-length c.args.symbols c.args.states c.args.list.now c.loop-candidate.candidate-index c.loop-candidate.kept c.loop-candidate.decisions.items c.loop-candidate.invariant in
+    omega (arith, le, c.requires.few)
+
+pub overflow_add-kept : goal.overflow_add-kept
+overflow_add-kept c =
     let le = so_far-length c.args.symbols c.args.states c.args.list.now c.loop-candidate.candidate-index c.loop-candidate.kept c.loop-candidate.decisions.items c.loop-candidate.invariant in
     omega (arith, le, c.requires.few)
 
@@ -28,6 +33,10 @@ loop-candidate-preserved c =
     let at = c.loop-candidate.candidate-index in
     let more = take_more c.args.list.now at anything c.loop-candidate-test.true in
     elim c.match-branch-4.branch [
+      | in-Implied+in_ok-push-in-Implied w ↦
+          rw (w.kept-is, w.decisions-is, w.in_ok-push-in-Implied.ensures.items)
+          (so_far-implied c.args.symbols c.args.states c.args.list.now at c.loop-candidate.kept _ c.loop-candidate.decisions.items (get_or c.args.list.now at anything) more c.loop-candidate-test.true c.loop-candidate.invariant
+          (rw w.in-Implied.is at c.in_ok-joined.ensures.ok) refl refl refl)
       | in-Joins+in_ok-push-in-Joins w ↦
           rw (w.kept-is, w.decisions-is, w.in_ok-push-in-Joins.ensures.items)
           (so_far-kept c.args.symbols c.args.states c.args.list.now at c.loop-candidate.kept w.in-Joins.joined c.loop-candidate.decisions.items (get_or c.args.list.now at anything) more c.loop-candidate.invariant

@@ -17,61 +17,64 @@ prune-requires-clause-sifted c = sifted-fixed c.args.symbols [] c.args.list.now 
 pub pass_first-requires-clause-as_many : goal.pass_first-requires-clause-as_many
 pass_first-requires-clause-as_many c = many-1 c.args.symbols c.args.states c.args.list.now c.args.decisions.now c.prune.new.decisions c.requires.sifted c.requires.narrow c.prune.ensures
 
-pub returns-in_err-pass_first-clause-err : goal.returns-in_err-pass_first-clause-err
-returns-in_err-pass_first-clause-err c =
+pub returns-in_err-prefixes-clause-err : goal.returns-in_err-prefixes-clause-err
+returns-in_err-prefixes-clause-err c =
     let is = err_from_is_err_and c.from_residual.result c.from_residual.ensures.1 in
     rw (is.1, is.2)
-    (refused-2 c.args.symbols c.args.states c.args.list.now c.args.decisions.now c.prune.new.decisions c.requires.sifted c.requires.narrow c.prune.ensures c.in_err-pass_first.field-0.0 c.in_err-pass_first.ensures.err)
+    (refused-2 c.args.symbols c.args.states c.args.list.now c.args.decisions.now c.prune.new.decisions c.requires.sifted c.requires.narrow c.prune.ensures c.in_err-prefixes.field-0.0 c.in_err-prefixes.ensures.err)
 
 pub pass_second-requires-clause-as_many : goal.pass_second-requires-clause-as_many
 pass_second-requires-clause-as_many c =
-    many-2 c.args.symbols c.args.states c.args.list.now c.args.decisions.now c.prune.new.decisions c.requires.sifted c.requires.narrow c.prune.ensures c.pass_first.new.decisions c.in_ok-pass_first.ensures.ok
+    many-2 c.args.symbols c.args.states c.args.list.now c.args.decisions.now c.prune.new.decisions c.requires.sifted c.requires.narrow c.prune.ensures c.pass_first.new.decisions c.in_ok-prefixes.ensures.ok
 
-pub returns-in_err-pass_second-clause-err : goal.returns-in_err-pass_second-clause-err
-returns-in_err-pass_second-clause-err c =
-    let is = err_from_is_err_and c.from_residual-in_err-pass_second.result c.from_residual-in_err-pass_second.ensures.1 in
+pub returns-in_err-found-clause-err : goal.returns-in_err-found-clause-err
+returns-in_err-found-clause-err c =
+    let is = err_from_is_err_and c.from_residual-in_err-found.result c.from_residual-in_err-found.ensures.1 in
     rw (is.1, is.2)
-    (refused-3 c.args.symbols c.args.states c.args.list.now c.args.decisions.now c.prune.new.decisions c.requires.sifted c.requires.narrow c.prune.ensures c.pass_first.new.decisions c.in_ok-pass_first.ensures.ok
-    c.in_err-pass_second.field-0.0 c.in_err-pass_second.ensures.err)
+    (refused-3 c.args.symbols c.args.states c.args.list.now c.args.decisions.now c.prune.new.decisions c.requires.sifted c.requires.narrow c.prune.ensures c.pass_first.new.decisions c.in_ok-prefixes.ensures.ok
+    c.in_err-found.field-0.0 c.in_err-found.ensures.err)
 
 pub push_kept-requires : goal.push_kept-requires
 push_kept-requires c =
-    many-3 c.args.symbols c.args.states c.args.list.now c.args.decisions.now c.prune.new.decisions c.requires.sifted c.requires.narrow c.prune.ensures c.pass_first.new.decisions c.in_ok-pass_first.ensures.ok
-    c.pass_second.new.decisions c.in_ok-pass_second.ensures.ok
+    many-3 c.args.symbols c.args.states c.args.list.now c.args.decisions.now c.prune.new.decisions c.requires.sifted c.requires.narrow c.prune.ensures c.pass_first.new.decisions c.in_ok-prefixes.ensures.ok
+    c.pass_second.new.decisions c.in_ok-found.ensures.ok
 
 pub witnesses_of-requires-clause-made : goal.witnesses_of-requires-clause-made
 witnesses_of-requires-clause-made c =
     let made = all-marked (IsWellMadeFor c.args.symbols) (map is_kept c.pass_second.new.decisions) c.args.list.now c.requires.made in
-    rw (c.deref.ensures.value, c.in_ok-push_kept.ensures, c.new-model.ensures.items) made
+    rw (c.deref-2.ensures.value, c.in_ok-push_kept.ensures, c.new-model.ensures.items) made
 
 pub witnesses_of-requires-clause-few : goal.witnesses_of-requires-clause-few
 witnesses_of-requires-clause-few c =
     let le = length-marked (map is_kept c.pass_second.new.decisions) c.args.list.now in
-    rw (c.deref.ensures.value, c.in_ok-push_kept.ensures, c.new-model.ensures.items) (omega (arith, le, c.requires.few))
+    rw (c.deref-2.ensures.value, c.in_ok-push_kept.ensures, c.new-model.ensures.items) (omega (arith, le, c.requires.few))
 
 pub witnesses_of-requires-clause-irredundant : goal.witnesses_of-requires-clause-irredundant
 witnesses_of-requires-clause-irredundant c =
-    let none = irredundant-3 c.args.symbols c.args.states c.args.list.now c.args.decisions.now c.prune.new.decisions c.requires.sifted c.requires.narrow c.prune.ensures c.pass_first.new.decisions c.in_ok-pass_first.ensures.ok
-    c.pass_second.new.decisions c.in_ok-pass_second.ensures.ok in
-    rw (c.deref.ensures.value, c.in_ok-push_kept.ensures, c.new-model.ensures.items) none
+    let none = irredundant-3 c.args.symbols c.args.states c.args.list.now c.args.decisions.now c.prune.new.decisions c.requires.sifted c.requires.narrow c.prune.ensures c.pass_first.new.decisions c.in_ok-prefixes.ensures.ok
+    c.pass_second.new.decisions c.in_ok-found.ensures.ok in
+    rw (c.deref-2.ensures.value, c.in_ok-push_kept.ensures, c.new-model.ensures.items) none
+
+pub witnesses_of-requires-clause-known : goal.witnesses_of-requires-clause-known
+witnesses_of-requires-clause-known c = rw (c.deref-2.ensures.value, c.in_ok-push_kept.ensures, c.new-model.ensures.items) c.in_ok-found.ensures.found
 
 pub returns-clause-ok : goal.returns-clause-ok
 returns-clause-ok c = IfOk-weaker c.witnesses_of.result _ _ (λ ws is.
     let n = c.args.symbols in
     let s = c.args.states in
-    let witnessed : IsWitnessed n s (those is_kept c.args.list.now c.pass_second.new.decisions) ws.items = rw (c.deref.ensures.value, c.in_ok-push_kept.ensures, c.new-model.ensures.items) at is in
-    let many = many-3 n s c.args.list.now c.args.decisions.now c.prune.new.decisions c.requires.sifted c.requires.narrow c.prune.ensures c.pass_first.new.decisions c.in_ok-pass_first.ensures.ok c.pass_second.new.decisions
-    c.in_ok-pass_second.ensures.ok in
+    let witnessed : IsWitnessed n s (those is_kept c.args.list.now c.pass_second.new.decisions) ws.items = rw (c.deref-2.ensures.value, c.in_ok-push_kept.ensures, c.new-model.ensures.items) at is in
+    let many = many-3 n s c.args.list.now c.args.decisions.now c.prune.new.decisions c.requires.sifted c.requires.narrow c.prune.ensures c.pass_first.new.decisions c.in_ok-prefixes.ensures.ok c.pass_second.new.decisions
+    c.in_ok-found.ensures.ok in
     let old = sifted-many n [] c.args.list.now c.args.decisions.now c.requires.sifted in
     record {
       as_many = many ∙ sym old;
-      reduction = reduction n s c.args.list.now c.args.decisions.now c.prune.new.decisions c.requires.sifted c.requires.narrow c.prune.ensures c.pass_first.new.decisions c.in_ok-pass_first.ensures.ok
-          c.pass_second.new.decisions c.in_ok-pass_second.ensures.ok c.requires.made ws.items witnessed;
+      reduction = reduction n s c.args.list.now c.args.decisions.now c.prune.new.decisions c.requires.sifted c.requires.narrow c.prune.ensures c.pass_first.new.decisions c.in_ok-prefixes.ensures.ok
+          c.pass_second.new.decisions c.in_ok-found.ensures.ok c.requires.made ws.items witnessed;
     }) c.witnesses_of.ensures.ok
 
 pub returns-clause-err : goal.returns-clause-err
 returns-clause-err c = IfErr-weaker c.witnesses_of.result _ _ (λ e is.
     let refuses : RefusesWitnesses c.args.symbols c.args.states (those is_kept c.args.list.now c.pass_second.new.decisions) e =
-    rw (c.deref.ensures.value, c.in_ok-push_kept.ensures, c.new-model.ensures.items) at is in
-    refused-4 c.args.symbols c.args.states c.args.list.now c.args.decisions.now c.prune.new.decisions c.requires.sifted c.requires.narrow c.prune.ensures c.pass_first.new.decisions c.in_ok-pass_first.ensures.ok
-    c.pass_second.new.decisions c.in_ok-pass_second.ensures.ok e refuses) c.witnesses_of.ensures.err
+    rw (c.deref-2.ensures.value, c.in_ok-push_kept.ensures, c.new-model.ensures.items) at is in
+    refused-4 c.args.symbols c.args.states c.args.list.now c.args.decisions.now c.prune.new.decisions c.requires.sifted c.requires.narrow c.prune.ensures c.pass_first.new.decisions c.in_ok-prefixes.ensures.ok
+    c.pass_second.new.decisions c.in_ok-found.ensures.ok e refuses) c.witnesses_of.ensures.err

@@ -1,19 +1,33 @@
-use Rattle.std.proofs.Common.{◌-◌, refl, sym, ◌∙◌, arith}
+use Rattle.std.proofs.Common.{◌≤◌, ◌-◌, get_or, map, reverse, sym, subst, ◌∙◌, arith}
 use Rattle.template_core.specs.Constraints.{IsWellMadeFor}
-use Rattle.reduce_model.proofs.SecondPasses.{all-others, back-end, back-found, back-missing, back-none, back-on, back-refused, back-step, back-within, length-others}
+use Rattle.reduce_model.proofs.Marks.{anything}
+use Rattle.reduce_model.proofs.SecondPasses.{all-from, back-end, back-found, back-length, back-missing, back-on, back-refused, back-sought, back-step, back-within, found-more, found-on, found-step}
+use Rattle.reduce_model.specs.Deciding.{is_left}
+use Rattle.reduce_model.specs.Passes.{IsPrefixOf}
+use Rattle.reduce_model.specs.declared.grown.Sought.TheVariants.{Found, Missing, TooWide}
+use Rattle.reduce_model.specs.declared.prefixes.Prefix.{Prefix}
 use Rattle.reduce_model.proofs.second_pass.pass_second.Goals as goal
-use Rattle.reduce_model.proofs.second_pass.pass_second.Goals.{in-Found, in-Missing}
-
-pub loop-place-init : goal.loop-place-init
-loop-place-init c = back-none c.args.symbols c.args.states c.args.list.now c.args.decisions.now _ refl c.requires.as_many c.requires.passed
+use Rattle.reduce_model.proofs.second_pass.pass_second.Goals.{in-Found+in_ok-push-in-Found, in-Missing}
 
 pub seek-requires-clause-made : goal.seek-requires-clause-made
 seek-requires-clause-made c =
-    rw (c.deref.ensures.value, c.in_ok-others.ensures) (all-others (IsWellMadeFor c.args.symbols) c.args.list.now c.loop-place.decisions (c.loop-place.place - 1) c.requires.made)
+    rw (c.deref.ensures.value, c.in_ok-others.ensures)
+    (all-from (IsWellMadeFor c.args.symbols) c.args.list.now c.loop-place.decisions c.index-prefixes-longest_before.result.place (c.loop-place.place - 1) c.requires.made)
 
 pub seek-requires-clause-short : goal.seek-requires-clause-short
 seek-requires-clause-short c =
-    rw (c.deref.ensures.value, c.in_ok-others.ensures) (let le = length-others c.args.list.now c.loop-place.decisions (c.loop-place.place - 1) in omega (arith, le, c.requires.few))
+    let n = c.args.symbols in
+    let s = c.args.states in
+    let list = c.args.list.now in
+    let old = c.args.decisions.now in
+    let new = c.loop-place.decisions in
+    let at = c.loop-place.place in
+    let some = c.loop-place-test.true in
+    let prefix = c.index-prefixes-longest_before.result in
+    let of : IsPrefixOf n s list (map is_left old) prefix = subst (λ (p : Prefix). IsPrefixOf n s list (map is_left old) p) (sym c.index-prefixes-longest_before.is) (c.requires.kept.are c.longest_before.result prefix c.longest_before.ensures.within) in
+    let le : prefix.place ≤ at - 1 = subst (λ (p : Prefix). p.place ≤ at - 1) (sym c.index-prefixes-longest_before.is) (c.longest_before.ensures.before prefix) in
+    let short = back-length n s list old new (at - 1) (back-within n s list old new at some c.loop-place.invariant.passing) (back-step n s list old new at some c.loop-place.invariant.passing) (sym c.is_kept.ensures ∙ c.if-is_kept.true) prefix le of in
+    rw (c.deref.ensures.value, c.in_ok-others.ensures) (omega (arith, short, c.requires.few))
 
 pub returns-in-TooWide-clause-err : goal.returns-in-TooWide-clause-err
 returns-in-TooWide-clause-err c =
@@ -24,8 +38,14 @@ returns-in-TooWide-clause-err c =
     let new = c.loop-place.decisions in
     let at = c.loop-place.place in
     let some = c.loop-place-test.true in
-    back-refused n s list old new (at - 1) (back-within n s list old new at some c.loop-place.invariant) (back-step n s list old new at some c.loop-place.invariant) (sym c.is_kept.ensures ∙ c.if-is_kept.true)
-    c.in-TooWide.built (rw (c.deref.ensures.value, c.in_ok-others.ensures) at (rw c.in-TooWide.is at c.in_ok-built.ensures.ok))
+    let prefix = c.index-prefixes-longest_before.result in
+    let of : IsPrefixOf n s list (map is_left old) prefix = subst (λ (p : Prefix). IsPrefixOf n s list (map is_left old) p) (sym c.index-prefixes-longest_before.is) (c.requires.kept.are c.longest_before.result prefix c.longest_before.ensures.within) in
+    let le : prefix.place ≤ at - 1 = subst (λ (p : Prefix). p.place ≤ at - 1) (sym c.index-prefixes-longest_before.is) (c.longest_before.ensures.before prefix) in
+    let within = back-within n s list old new at some c.loop-place.invariant.passing in
+    let passing = back-step n s list old new at some c.loop-place.invariant.passing in
+    let kept = sym c.is_kept.ensures ∙ c.if-is_kept.true in
+    back-refused n s list old new (at - 1) within passing kept c.in-TooWide.built
+    (back-sought n s list old new (at - 1) within passing kept prefix le of (get_or list (at - 1) anything) (TooWide c.in-TooWide.built) (rw (c.deref.ensures.value, c.in_ok-others.ensures) at (rw c.in-TooWide.is at c.in_ok-trace.ensures.ok)))
 
 pub loop-place-preserved-then-is_kept : goal.loop-place-preserved-then-is_kept
 loop-place-preserved-then-is_kept c =
@@ -36,24 +56,43 @@ loop-place-preserved-then-is_kept c =
     let new = c.loop-place.decisions in
     let at = c.loop-place.place in
     let some = c.loop-place-test.true in
+    let prefix = c.index-prefixes-longest_before.result in
+    let of : IsPrefixOf n s list (map is_left old) prefix = subst (λ (p : Prefix). IsPrefixOf n s list (map is_left old) p) (sym c.index-prefixes-longest_before.is) (c.requires.kept.are c.longest_before.result prefix c.longest_before.ensures.within) in
+    let le : prefix.place ≤ at - 1 = subst (λ (p : Prefix). p.place ≤ at - 1) (sym c.index-prefixes-longest_before.is) (c.longest_before.ensures.before prefix) in
+    let within = back-within n s list old new at some c.loop-place.invariant.passing in
+    let passing = back-step n s list old new at some c.loop-place.invariant.passing in
+    let kept = sym c.is_kept.ensures ∙ c.if-is_kept.true in
     elim c.match-branch-3.branch [
-      | in-Found w ↦
-          let sought = rw (c.deref.ensures.value, c.in_ok-others.ensures) at (rw w.in-Found.is at c.in_ok-built.ensures.ok) in
-          rw w.decisions-is
-          (back-found n s list old new (at - 1) (back-within n s list old new at some c.loop-place.invariant) (back-step n s list old new at some c.loop-place.invariant) (sym c.is_kept.ensures ∙ c.if-is_kept.true) _ sought.0 sought.1)
+      | in-Found+in_ok-push-in-Found w ↦
+          let sought = back-sought n s list old new (at - 1) within passing kept prefix le of (get_or list (at - 1) anything) (Found w.in-Found.trace) (rw (c.deref.ensures.value, c.in_ok-others.ensures) at (rw w.in-Found.is at c.in_ok-trace.ensures.ok)) in
+          rw (w.decisions-is, w.found-is, w.in_ok-push-in-Found.ensures.items) (record {
+            passing = back-found n s list old new (at - 1) within passing kept w.in-Found.trace sought.0 sought.1;
+            witnesses = found-more n s list old new (at - 1) within passing kept c.loop-place.found.items w.in-Found.trace sought.0 sought.1 (found-step n s list new at (reverse c.loop-place.found.items) some c.loop-place.invariant.witnesses);
+          })
       | in-Missing w ↦
-          let sought = rw (c.deref.ensures.value, c.in_ok-others.ensures) at (rw w.in-Missing.is at c.in_ok-built.ensures.ok) in
-          rw w.decisions-is
-          (back-missing n s list old new (at - 1) (back-within n s list old new at some c.loop-place.invariant) (back-step n s list old new at some c.loop-place.invariant) (sym c.is_kept.ensures ∙ c.if-is_kept.true) sought.0 sought.1)
+          let sought = back-sought n s list old new (at - 1) within passing kept prefix le of (get_or list (at - 1) anything) Missing (rw (c.deref.ensures.value, c.in_ok-others.ensures) at (rw w.in-Missing.is at c.in_ok-trace.ensures.ok)) in
+          rw (w.decisions-is, w.found-is, w.clear.ensures.items) (record {
+            passing = back-missing n s list old new (at - 1) within passing kept sought.0 sought.1;
+            witnesses = tt;
+          })
     ]
 
 pub loop-place-preserved : goal.loop-place-preserved
 loop-place-preserved c =
+    let n = c.args.symbols in
+    let s = c.args.states in
+    let list = c.args.list.now in
+    let old = c.args.decisions.now in
+    let new = c.loop-place.decisions in
     let at = c.loop-place.place in
     let some = c.loop-place-test.true in
-    back-on c.args.symbols c.args.states c.args.list.now c.args.decisions.now c.loop-place.decisions (at - 1)
-    (back-within c.args.symbols c.args.states c.args.list.now c.args.decisions.now c.loop-place.decisions at some c.loop-place.invariant)
-    (back-step c.args.symbols c.args.states c.args.list.now c.args.decisions.now c.loop-place.decisions at some c.loop-place.invariant) (sym c.is_kept.ensures ∙ c.if-is_kept.false)
+    let within = back-within n s list old new at some c.loop-place.invariant.passing in
+    let passing = back-step n s list old new at some c.loop-place.invariant.passing in
+    let lacks = sym c.is_kept.ensures ∙ c.if-is_kept.false in
+    record {
+      passing = back-on n s list old new (at - 1) within passing lacks;
+      witnesses = found-on n s list old new (at - 1) within passing (reverse c.loop-place.found.items) lacks (found-step n s list new at (reverse c.loop-place.found.items) some c.loop-place.invariant.witnesses);
+    }
 
 pub returns-clause-ok : goal.returns-clause-ok
-returns-clause-ok c = back-end c.args.symbols c.args.states c.args.list.now c.args.decisions.now c.loop-place.decisions c.loop-place.place c.loop-place-test.false c.loop-place.invariant
+returns-clause-ok c = back-end c.args.symbols c.args.states c.args.list.now c.args.decisions.now c.loop-place.decisions c.loop-place.place c.loop-place-test.false c.loop-place.invariant.passing

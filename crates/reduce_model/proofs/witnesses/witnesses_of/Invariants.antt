@@ -1,5 +1,5 @@
-use Rattle.reduce_model.proofs.Witnessing.{IsWitnessing}
+use Rattle.reduce_model.proofs.Witnessing.{IsWitnessingAt}
 use Rattle.reduce_model.proofs.witnesses.witnesses_of.Given as goal
 
 abbrev pub invariant-loop-place : goal.invariant-loop-place
-invariant-loop-place l = IsWitnessing l.symbols l.states l.model l.place l.witnesses.items
+invariant-loop-place l = IsWitnessingAt l.symbols l.states l.model l.place l.before l.witnesses.items

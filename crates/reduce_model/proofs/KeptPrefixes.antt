@@ -1,0 +1,55 @@
+-- Prefixes that the first pass keeps for the second.
+use Rattle.std.proofs.Common.{◌≡◌, ◌⊎◌, ℕ, ◌+◌, ◌<◌, ◌≤◌, inl, inr, List, [], ◌∷◌, ◌++◌, Bool, length, take, arith}
+use Rattle.std.proofs.lemmas.List.{get_or_append_left, length_push}
+use Rattle.std.proofs.lemmas.List.Elements.{All-push, All-weaker}
+use Rattle.std.specs.List.{All, HoldsAt}
+use Rattle.template_core.specs.declared.constraint.Constraint.{Constraint}
+use Rattle.reduce_model.specs.Passes.{AreKeptPrefixes, IsPrefixOf}
+use Rattle.reduce_model.specs.declared.prefixes.Prefix.{Prefix}
+
+-- one of them, of candidates before a place
+pub record IsPrefixUpTo (n s : ℕ) (list : List Constraint) (marks : List Bool) (at : ℕ) (prefix : Prefix) : Type 0 where
+  pub before : prefix.place ≤ at
+  pub is : IsPrefixOf n s list marks prefix
+
+pub record AreKeptUpTo (n s : ℕ) (list : List Constraint) (marks : List Bool) (at : ℕ) (prefixes : List Prefix) : Type 0 where
+  pub some : 0 < length prefixes
+  pub first : HoldsAt (λ (prefix : Prefix). prefix.place ≡ 0) prefixes 0
+  pub are : All (IsPrefixUpTo n s list marks at) prefixes
+
+pub kept-later : (n s : ℕ) (list : List Constraint) (old new : List Bool) (at : ℕ) (prefixes : List Prefix) → ((place : ℕ) → place ≤ at → take place new ≡ take place old) → AreKeptUpTo n s list old at prefixes
+    → AreKeptUpTo n s list new (at + 1) prefixes
+kept-later n s list old new at prefixes same h = record {
+  some = h.some;
+  first = h.first;
+  are = All-weaker (IsPrefixUpTo n s list old at) (IsPrefixUpTo n s list new (at + 1)) (λ prefix p.
+      let before = p.before in
+      let e = same prefix.place before in
+      record {
+        before = omega (arith, before);
+        is = record {
+          within = p.is.within;
+          automaton = rw e p.is.automaton;
+          counted = rw e p.is.counted;
+          narrow = rw e p.is.narrow;
+        };
+      }) prefixes h.are;
+}
+
+pub kept-more : (n s : ℕ) (list : List Constraint) (marks : List Bool) (at : ℕ) (old new : List Prefix) (prefix : Prefix) → (new ≡ old ++ prefix ∷ []) ⊎ (new ≡ old) → IsPrefixUpTo n s list marks at prefix
+    → AreKeptUpTo n s list marks at old → AreKeptUpTo n s list marks at new
+kept-more n s list marks at old new prefix (inl e) is h =
+    let long = length_push old prefix in
+    rw e (record {
+      some = omega (arith, long);
+      first = λ d. rw (get_or_append_left old (prefix ∷ []) d 0 h.some) (h.first d);
+      are = All-push (IsPrefixUpTo n s list marks at) old prefix h.are is;
+    })
+kept-more n s list marks at old new prefix (inr e) is h = rw e h
+
+pub kept-end : (n s : ℕ) (list : List Constraint) (marks : List Bool) (at : ℕ) (prefixes : List Prefix) → AreKeptUpTo n s list marks at prefixes → AreKeptPrefixes n s list marks prefixes
+kept-end n s list marks at prefixes h = record {
+  some = h.some;
+  first = h.first;
+  are = All-weaker (IsPrefixUpTo n s list marks at) (IsPrefixOf n s list marks) (λ prefix p. p.is) prefixes h.are;
+}

@@ -1,5 +1,6 @@
 -- The rows of a table that are left, one after the other.
-use Rattle.std.proofs.Common.{◌≡◌, ℕ, ◌+◌, ◌<◌, List, ◌∷◌, Option, Ok, length, map, drop, get_or, refl, sym, ap, subst, ◌∙◌, add-one, drop-cons}
+use Rattle.std.proofs.Common.{◌≡◌, ℕ, ◌+◌, ◌<◌, ◌≤◌, List, ◌∷◌, Option, Result, Ok, length, map, drop, get_or, refl, sym, ap, subst, ◌∙◌, add-one, drop-cons}
+use Rattle.std.proofs.lemmas.List.{at_drop_all}
 use Rattle.clap.specs.Words.{Row, Text}
 use Rattle.decl_base.specs.declared.refusal.Refusal.{Refusal}
 use Rattle.minerful_words.specs.Rows.{option_row}
@@ -31,3 +32,10 @@ module _ (command : Command) (found : List Row) (options : List CommandOption) (
   pub with_texts-refused : (e : Refusal) → Refuses e (with_text (option_row (get_or options k d)) text s) → Refuses e (with_texts (map option_row (drop k options)) command found s)
   with_texts-refused e refused =
       subst (Refuses e) (sym first) (refuses_first (with_text (option_row (get_or options k d)) text s) (with_texts (map option_row (drop (k + 1) options)) command found) e refused)
+
+-- no option is left, so all texts are given
+pub with_texts-all : (command : Command) (found : List Row) (options : List CommandOption) (k : ℕ) (s : Settings) (whole : Result Settings ℕ)
+    → length options ≤ k → with_texts (map option_row (drop k options)) command found s ≡ whole → whole ≡ Ok s
+unfolding with_texts
+with_texts-all command found options k s whole done left =
+    sym left ∙ at_drop_all (λ rows. with_texts (map option_row rows) command found s) options k done

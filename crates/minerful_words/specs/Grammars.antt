@@ -28,16 +28,32 @@ whole_number_of text = if is_whole_number text then Some (number_of_digits text)
 abbrev pub between : ℕ → ℕ → ℕ → Option ℕ
 between least most n = if nat_le least n && nat_le n most then Some n else None
 
+-- the whole number that a text writes, where it is within its bounds
+unfoldable pub number_between : ℕ → ℕ → List ℕ → Option ℕ
+number_between least most text = option_and_then (between least most) (whole_number_of text)
+
+abbrev pub IsBetween : ℕ → ℕ → ℕ → Type 0
+IsBetween least most n = (least ≤ n) × (n ≤ most)
+
 -- the greatest limit on states that may be set
 abbrev pub most_states : ℕ
 most_states = 65536
 
 abbrev pub IsLimit : ℕ → Type 0
-IsLimit states = (1 ≤ states) × (states ≤ most_states)
+IsLimit states = IsBetween 1 most_states states
 
--- a limit on states
-unfoldable pub states_of : List ℕ → Option ℕ
-states_of text = option_and_then (between 1 most_states) (whole_number_of text)
+-- the greatest seed, number of traces, length of a trace and number of letters that a log is generated with
+abbrev pub most_seed : ℕ
+most_seed = 4294967295
+
+abbrev pub most_traces : ℕ
+most_traces = 1048575
+
+abbrev pub most_length : ℕ
+most_length = 1000
+
+abbrev pub most_letters : ℕ
+most_letters = 26
 
 unfoldable pub format_of : List ℕ → Option Format
 format_of text =
@@ -56,4 +72,6 @@ stage_of text =
     else (if bytes_eq text (codes "scores") then Some stage.Scores else None))
 
 unfoldable pub out_of : List ℕ → Option Out
-out_of text = if bytes_eq text (codes "json") then Some out.Json else None
+out_of text =
+    if bytes_eq text (codes "json") then Some out.Json
+    else (if bytes_eq text (codes "table") then Some out.Table else None)

@@ -1,6 +1,7 @@
 -- The settings that the words of the command line give, or the place of their fault.
-use Rattle.std.specs.Prelude.{◌≡◌, ◌≤◌, ℕ, List, [], ◌∷◌, codes, Option, Some, None, Result, Ok, Err, unwrap_or, option_map, if◌then◌else◌}
+use Rattle.std.specs.Prelude.{◌≡◌, ◌≤◌, ◌*◌, ℕ, List, [], ◌∷◌, codes, Bool, ◌&&◌, nat_le, Option, Some, None, Result, Ok, Err, unwrap_or, option_map, if◌then◌else◌}
 use Rattle.std.specs.Option.{ok_or}
+use Rattle.std.specs.Str.{bytes_eq}
 use Rattle.clap.specs.Words.{Row, Text, first_of}
 use Rattle.decl_base.specs.Threshold.{threshold_of}
 use Rattle.decl_base.specs.declared.refusal.Refusal.{Refusal}
@@ -10,9 +11,10 @@ use Rattle.decl_base.specs.declared.threshold.Thresholds.{Thresholds}
 use Rattle.log_columns.specs.declared.Columns.{Columns}
 use Rattle.log_columns.specs.declared.OrderAs.TheVariants as order
 use Rattle.minerful_words.specs.Apps.{app_for, taken}
-use Rattle.minerful_words.specs.Grammars.{format_of, order_as_of, states_of, stage_of, out_of}
-use Rattle.minerful_words.specs.Table.{OptionRow, options, row_named, takes}
+use Rattle.minerful_words.specs.Grammars.{IsBetween, number_between, most_states, most_seed, most_traces, most_length, most_letters, format_of, order_as_of, stage_of, out_of}
+use Rattle.minerful_words.specs.Table.{OptionRow, options, row_named, takes, is_command}
 use Rattle.minerful_words.specs.declared.settings.Command.{Command}
+use Rattle.minerful_words.specs.declared.settings.Command.TheVariants.{Mine, Kb, Check, Gen, Sample}
 use Rattle.minerful_words.specs.declared.settings.Format.TheVariants as format
 use Rattle.minerful_words.specs.declared.settings.Stage.TheVariants as stage
 use Rattle.minerful_words.specs.declared.settings.Out.TheVariants as out
@@ -41,17 +43,27 @@ default_thresholds = record {
 abbrev pub default_states : ℕ
 default_states = 16384
 
--- the settings of a command before its options are looked at: a log that isn't named is standard input, `-`
+-- the name of standard input
+abbrev pub standard_input : Text
+standard_input = codes "-"
+
+-- the settings of a command before its options are looked at: a log that isn't named is standard input, and a model
+-- that isn't named has the empty name
 unfoldable pub without_options : Command → List Row → Settings
 without_options command found = record {
   command = command;
-  log = unwrap_or (first_of (codes "log") found) (codes "-");
+  model = unwrap_or (first_of (codes "model") found) [];
+  log = unwrap_or (first_of (codes "log") found) standard_input;
   format = format.Strings;
   columns = default_columns;
   thresholds = default_thresholds;
   states = default_states;
   stage = stage.Model;
   out = out.Json;
+  seed = 0;
+  traces = 100;
+  length = 10;
+  letters = 4;
 }
 
 -- ---- what is given
@@ -69,9 +81,13 @@ put field.OrderAs text s = option_map (λ v. record s { columns = record s.colum
 put field.Support text s = option_map (λ v. record s { thresholds = record s.thresholds { support = v } }) (read_threshold text)
 put field.Confidence text s = option_map (λ v. record s { thresholds = record s.thresholds { confidence = v } }) (read_threshold text)
 put field.Interest text s = option_map (λ v. record s { thresholds = record s.thresholds { interest = v } }) (read_threshold text)
-put field.States text s = option_map (λ v. record s { states = v }) (states_of text)
+put field.States text s = option_map (λ v. record s { states = v }) (number_between 1 most_states text)
 put field.Stage text s = option_map (λ v. record s { stage = v }) (stage_of text)
 put field.Out text s = option_map (λ v. record s { out = v }) (out_of text)
+put field.Seed text s = option_map (λ v. record s { seed = v }) (number_between 0 most_seed text)
+put field.Traces text s = option_map (λ v. record s { traces = v }) (number_between 0 most_traces text)
+put field.Length text s = option_map (λ v. record s { length = v }) (number_between 1 most_length text)
+put field.Letters text s = option_map (λ v. record s { letters = v }) (number_between 1 most_letters text)
 
 -- the text of an option among those found: none where the command doesn't take it
 abbrev pub text_for : Command → List Row → OptionRow → Option Text
@@ -89,11 +105,30 @@ with_texts (option ∷ rest) command found s = do
   next ← with_text option (text_for command found option) s
   with_texts rest command found next
 
+-- ---- what the settings have together
+
+-- the command checks, and both its model and its log are standard input
+abbrev pub reads_standard_input_twice : Settings → Bool
+reads_standard_input_twice s = is_command Check s.command && bytes_eq s.model standard_input && bytes_eq s.log standard_input
+
+-- the greatest number of events that a log may be generated with
+abbrev pub most_events : ℕ
+most_events = 16777215
+
+-- the generated log has few enough events, however long its traces get
+abbrev pub is_log_small : Settings → Bool
+is_log_small s = nat_le (s.traces * s.length) most_events
+
+-- standard input is read once, and a generated log is small enough
+unfoldable pub together : Settings → Result Settings ℕ
+together s = if reads_standard_input_twice s then Err 17 else (if is_log_small s then Ok s else Err 18)
+
 unfoldable pub settings_in : Command → List Row → Result Settings ℕ
-settings_in command found = with_texts options command found (without_options command found)
+settings_in command found = with_texts options command found (without_options command found) >>= together
 
 -- The settings, or a number: 0 where the first word names no command; else 1 where the command doesn't take the
--- words; else the least number of an option whose text isn't in its grammar.
+-- words; else the least number of an option whose text isn't in its grammar; else 17 where a check reads standard
+-- input twice; else 18 where a generated log may have too many events.
 unfoldable pub settings : List Text → Result Settings ℕ
 settings [] = Err 0
 settings (word ∷ words) = do
@@ -101,9 +136,17 @@ settings (word ∷ words) = do
   found ← taken (app_for row) (word ∷ words)
   settings_in row.command found
 
+-- the names of the inputs that a command reads, in the order in which it reads them
+abbrev pub inputs_for : Command → Settings → List Text
+inputs_for Mine settings = settings.log ∷ []
+inputs_for Kb settings = settings.log ∷ []
+inputs_for Check settings = settings.model ∷ settings.log ∷ []
+inputs_for Gen settings = []
+inputs_for Sample settings = []
+
 -- the names of the inputs that a command with these settings reads
 abbrev pub inputs_of_settings : Result Settings ℕ → List Text
-inputs_of_settings (Ok settings) = settings.log ∷ []
+inputs_of_settings (Ok settings) = inputs_for settings.command settings
 inputs_of_settings (Err at) = []
 
 unfoldable pub inputs_of : List Text → List Text
@@ -116,6 +159,14 @@ pub record AreFractions (thresholds : Thresholds) : Type 0 where
   pub support : thresholds.support.millionths ≤ 1000000
   pub confidence : thresholds.confidence.millionths ≤ 1000000
   pub interest : thresholds.interest.millionths ≤ 1000000
+
+-- a log can be generated with these numbers: it is within the limits on traces and events, whatever is drawn
+pub record CanGenerate (seed traces length letters : ℕ) : Type 0 where
+  pub seed_is_small : seed ≤ most_seed
+  pub traces_are_few : traces ≤ most_traces
+  pub length_is_within : IsBetween 1 most_length length
+  pub letters_are_within : IsBetween 1 most_letters letters
+  pub events_are_few : traces * length ≤ most_events
 
 -- a refusal of words that give no settings names the place of their fault; want of memory is free
 abbrev pub Refuses : {T : Type 0} → Refusal → Result T ℕ → Type 0

@@ -4,7 +4,7 @@ use Rattle.std.specs.List.{list_any}
 use Rattle.std.specs.Str.{bytes_eq}
 use Rattle.clap.specs.Words.{Text}
 use Rattle.minerful_words.specs.declared.settings.Command.{Command}
-use Rattle.minerful_words.specs.declared.settings.Command.TheVariants.{Mine, Kb}
+use Rattle.minerful_words.specs.declared.settings.Command.TheVariants.{Mine, Kb, Check, Gen, Sample}
 use Rattle.minerful_words.specs.declared.table.Field.{Field}
 use Rattle.minerful_words.specs.declared.table.Field.TheVariants as field
 
@@ -31,11 +31,19 @@ option number name commands field = record { number = number; name = name; comma
 
 -- the commands that read a log
 abbrev reading : List Command
-reading = Mine ∷ Kb ∷ []
+reading = Mine ∷ Kb ∷ Check ∷ []
 
 -- the commands that mine a log
 abbrev mining : List Command
 mining = Mine ∷ []
+
+-- the commands that generate a log
+abbrev generating : List Command
+generating = Gen ∷ Sample ∷ []
+
+-- the commands that write the log that they generate
+abbrev writing : List Command
+writing = Gen ∷ []
 
 -- the options, in the order in which their texts are tried
 unfoldable pub options : List OptionRow
@@ -51,25 +59,39 @@ options =
     ∷ option 10 (codes "max-states") mining field.States
     ∷ option 11 (codes "stage") mining field.Stage
     ∷ option 12 (codes "out") mining field.Out
+    ∷ option 13 (codes "seed") generating field.Seed
+    ∷ option 14 (codes "traces") writing field.Traces
+    ∷ option 15 (codes "length") writing field.Length
+    ∷ option 16 (codes "letters") writing field.Letters
     ∷ []
 
+-- the model, which must be there
+abbrev model : PositionalRow
+model = record { name = codes "model"; is_required = true }
+
 -- the log, which need not be there
-abbrev log : List PositionalRow
-log = record { name = codes "log"; is_required = false } ∷ []
+abbrev log : PositionalRow
+log = record { name = codes "log"; is_required = false }
 
 unfoldable pub commands : List CommandRow
 commands =
-    record { command = Mine; name = codes "mine"; positionals = log }
-    ∷ record { command = Kb; name = codes "kb"; positionals = log }
+    record { command = Mine; name = codes "mine"; positionals = log ∷ [] }
+    ∷ record { command = Kb; name = codes "kb"; positionals = log ∷ [] }
+    ∷ record { command = Check; name = codes "check"; positionals = model ∷ log ∷ [] }
+    ∷ record { command = Gen; name = codes "gen"; positionals = [] }
+    ∷ record { command = Sample; name = codes "sample"; positionals = [] }
     ∷ []
 
 -- the command of this name
 unfoldable pub row_named : Text → Option CommandRow
 row_named text = find (λ row. bytes_eq row.name text) commands
 
-abbrev is_command : Command → Command → Bool
+abbrev pub is_command : Command → Command → Bool
 is_command Mine Mine = true
 is_command Kb Kb = true
+is_command Check Check = true
+is_command Gen Gen = true
+is_command Sample Sample = true
 is_command _ _ = false
 
 -- whether the command takes the option

@@ -1,15 +1,15 @@
 //! The settings that the texts among the words give.
 
-ghost use Rattle.std.specs.Prelude.{◌≡◌, Ok, Some, OnOk, IfOk, IfErr, option_map};
+ghost use Rattle.std.specs.Prelude.{◌≡◌, ◌*◌, ◌≤◌, Ok, Some, OnOk, IfOk, IfErr, option_map};
 ghost use Rattle.std.specs.Option.{ok_or};
 ghost use Rattle.clap.specs.Words.{found_of, rows_of};
 ghost use Rattle.minerful_words.specs.Rows.{option_row};
-ghost use Rattle.minerful_words.specs.Settings.{Gives, Refuses, put, with_text, without_options};
+ghost use Rattle.minerful_words.specs.Settings.{Gives, Refuses, most_events, put, reads_standard_input_twice, together, with_text, without_options};
 ghost use Rattle.minerful_words.specs.Settings.{settings_in as settings_of_found, text_for as text_of_option};
 ghost use Rattle.minerful_words.specs.Steps.{IsBounded};
 
 use crate::clap_command::text_of;
-use crate::grammars::{order_as_named, states_named};
+use crate::grammars::{number_between, order_as_named};
 use crate::settings::{Command, Format, Out, Settings, Stage};
 use crate::table::{CommandOption, Field};
 use clap::ArgMatches;
@@ -31,6 +31,23 @@ const INTEREST: Threshold = Threshold {
 
 const STATES: u64 = 16_384;
 
+/// The greatest limit on states that may be set.
+const MOST_STATES: u64 = 65_536;
+
+const MOST_SEED: u64 = 4_294_967_295;
+
+const MOST_TRACES: u64 = 1_048_575;
+
+const MOST_LENGTH: u64 = 1_000;
+
+const MOST_LETTERS: u64 = 26;
+
+/// The greatest number of events that a log may be generated with.
+const MOST_EVENTS: u64 = 16_777_215;
+
+/// The name of standard input.
+const STANDARD_INPUT: &str = "-";
+
 /// The settings that a command has with what it found in the words.
 pub(crate) fn settings_in(
     alloc: Global,
@@ -39,12 +56,14 @@ pub(crate) fn settings_in(
 ) -> Result<Settings, Refusal>
     ensures value { Gives result (settings_of_found command (rows_of (found_of found.now))) }
     ensures bounded { IfOk result IsBounded }
+    ensures events { IfOk result (λ s. s.traces * s.length ≤ most_events) }
 {
     let mut settings = Settings::without_options(alloc, command, found)?;
     for option in CommandOption::all() {
         let text = text_for(command, found, option);
         settings.give(alloc, option, text)?;
     }
+    settings.fit_together()?;
     Ok(settings)
 }
 
@@ -73,7 +92,8 @@ impl Settings {
     {
         Ok(Settings {
             command,
-            log: Name::of(alloc, text_of(found, "log").unwrap_or("-"))?,
+            model: Name::of(alloc, text_of(found, "model").unwrap_or(""))?,
+            log: Name::of(alloc, text_of(found, "log").unwrap_or(STANDARD_INPUT))?,
             format: Format::Strings,
             columns: Columns {
                 case: Name::of(alloc, "case")?,
@@ -89,6 +109,10 @@ impl Settings {
             states: STATES,
             stage: Stage::Model,
             out: Out::Json,
+            seed: 0,
+            traces: 100,
+            length: 10,
+            letters: 4,
         })
     }
 
@@ -126,10 +150,39 @@ impl Settings {
             Field::Support => self.thresholds.support = Threshold::read(text).ok_or(fault)?,
             Field::Confidence => self.thresholds.confidence = Threshold::read(text).ok_or(fault)?,
             Field::Interest => self.thresholds.interest = Threshold::read(text).ok_or(fault)?,
-            Field::States => self.states = states_named(text).ok_or(fault)?,
+            Field::States => self.states = number_between(text, 1, MOST_STATES).ok_or(fault)?,
             Field::Stage => self.stage = Stage::named(text).ok_or(fault)?,
             Field::Out => self.out = Out::named(text).ok_or(fault)?,
+            Field::Seed => self.seed = number_between(text, 0, MOST_SEED).ok_or(fault)?,
+            Field::Traces => self.traces = number_between(text, 0, MOST_TRACES).ok_or(fault)?,
+            Field::Length => self.length = number_between(text, 1, MOST_LENGTH).ok_or(fault)?,
+            Field::Letters => self.letters = number_between(text, 1, MOST_LETTERS).ok_or(fault)?,
         }
         Ok(())
+    }
+
+    /// Whether the settings fit together: standard input is read once, and a generated log is small enough.
+    #[tactic(auto, unfolding(crate::specs::Settings::together))]
+    fn fit_together(&self) -> Result<(), Refusal>
+        requires { IsBounded self.now }
+        ensures ok { OnOk result (together self.now ≡ Ok self.now) }
+        ensures events { OnOk result (self.now.traces * self.now.length ≤ most_events) }
+        ensures err { IfErr result (λ e. Refuses e (together self.now)) }
+    {
+        if self.reads_standard_input_twice() {
+            return Err(Refusal::Usage { at: 17 });
+        }
+        if self.traces * self.length > MOST_EVENTS {
+            return Err(Refusal::Usage { at: 18 });
+        }
+        Ok(())
+    }
+
+    fn reads_standard_input_twice(&self) -> bool
+        ensures { result ≡ reads_standard_input_twice self.now }
+    {
+        self.command == Command::Check
+            && self.model.text() == STANDARD_INPUT
+            && self.log.text() == STANDARD_INPUT
     }
 }

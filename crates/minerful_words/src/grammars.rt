@@ -1,15 +1,12 @@
 ghost use Rattle.std.specs.Prelude.{◌≡◌, IfSome};
 ghost use Rattle.std.specs.List.{list_all};
 ghost use Rattle.decl_base.specs.Threshold.{is_digit};
-ghost use Rattle.minerful_words.specs.Grammars.{IsLimit, order_as_of, states_of, whole_number_of, is_whole_number as has_whole_number_form};
+ghost use Rattle.minerful_words.specs.Grammars.{IsBetween, order_as_of, number_between as number_between_of, whole_number_of, is_whole_number as has_whole_number_form};
 
 use log_columns::OrderAs;
 
 /// The number of digits that a whole number has at most.
 const DIGITS: usize = 10;
-
-/// The greatest limit on states that may be set.
-const MOST_STATES: u64 = 65_536;
 
 #[tactic(auto, unfolding(crate::specs::Grammars::order_as_of))]
 pub(crate) fn order_as_named(text: &str) -> Option<OrderAs>
@@ -22,14 +19,14 @@ pub(crate) fn order_as_named(text: &str) -> Option<OrderAs>
     }
 }
 
-/// A limit on states, from 1 to 65,536.
-#[tactic(auto, unfolding(crate::specs::Grammars::states_of))]
-pub(crate) fn states_named(text: &str) -> Option<u64>
-    ensures value { result ≡ states_of text.now }
-    ensures within { IfSome result IsLimit }
+/// The whole number that a text writes, from `least` to `most`.
+#[tactic(auto, unfolding(crate::specs::Grammars::number_between))]
+pub(crate) fn number_between(text: &str, least: u64, most: u64) -> Option<u64>
+    ensures value { result ≡ number_between_of least most text.now }
+    ensures within { IfSome result (IsBetween least most) }
 {
     let number = whole_number(text)?;
-    if 1 <= number && number <= MOST_STATES {
+    if least <= number && number <= most {
         Some(number)
     } else {
         None

@@ -1,6 +1,6 @@
 ghost use Rattle.std.specs.Prelude.{◌≡◌, IfOk, map, string_bytes};
 ghost use Rattle.minerful_words.specs.Grammars.{IsLimit, format_of, stage_of, out_of};
-ghost use Rattle.minerful_words.specs.Settings.{settings, Gives, AreFractions};
+ghost use Rattle.minerful_words.specs.Settings.{settings, Gives, AreFractions, CanGenerate};
 
 use crate::choices::settings_in;
 use crate::clap_command::parse;
@@ -12,8 +12,16 @@ use std::alloc::Global;
 /// What a run does.
 #[derive(Clone, Copy, Debug, PartialEq, Eq)]
 pub enum Command {
+    /// Reports the model of a log.
     Mine,
+    /// Shows the knowledge base of a log.
     Kb,
+    /// Checks a log against a model.
+    Check,
+    /// Writes a generated log.
+    Gen,
+    /// Shows a summary of mining a generated log.
+    Sample,
 }
 
 /// How a log is written.
@@ -38,12 +46,15 @@ pub enum Stage {
 #[derive(Clone, Copy, Debug, PartialEq, Eq)]
 pub enum Out {
     Json,
+    Table,
 }
 
 /// What the words of the command line ask for. What a command doesn't use has its default.
 #[derive(Debug, Drop)]
 pub struct Settings {
     pub command: Command,
+    /// The name of the model's input, `-` for standard input. Empty where the command reads no model.
+    pub model: Name,
     /// The name of the log's input, `-` for standard input.
     pub log: Name,
     pub format: Format,
@@ -53,17 +64,27 @@ pub struct Settings {
     pub states: u64,
     pub stage: Stage,
     pub out: Out,
+    /// The seed of a generated log, up to 4,294,967,295.
+    pub seed: u64,
+    /// The number of traces of a generated log, up to 1,048,575.
+    pub traces: u64,
+    /// The greatest length of a generated trace, from 1 to 1,000.
+    pub length: u64,
+    /// The number of letters of a generated log, from 1 to 26.
+    pub letters: u64,
 }
 
 impl Settings {
     /// The settings that the words after the program's name give. `Usage` is 0 where the first word names no command,
-    /// 1 where the command doesn't take the words, and else the least number of an option whose value isn't in its
-    /// grammar.
+    /// 1 where the command doesn't take the words, else the least number of an option whose value isn't in its
+    /// grammar, else 17 where a check reads both its model and its log from standard input, and else 18 where the
+    /// number of traces times their length is above 16,777,215.
     #[tactic(auto, unfolding(crate::specs::Settings::settings))]
     pub fn read(alloc: Global, words: &[String]) -> Result<Settings, Refusal>
         ensures value { Gives result (settings (map string_bytes words.now)) }
         ensures thresholds { IfOk result (λ s. AreFractions s.thresholds) }
         ensures states { IfOk result (λ s. IsLimit s.states) }
+        ensures generator { IfOk result (λ s. CanGenerate s.seed s.traces s.length s.letters) }
     {
         let Some(word) = words.first() else {
             return Err(Refusal::Usage { at: 0 });
@@ -110,6 +131,7 @@ impl Out {
     {
         match text {
             "json" => Some(Out::Json),
+            "table" => Some(Out::Table),
             _ => None,
         }
     }

@@ -20,6 +20,10 @@ pub(crate) enum Field {
     States,
     Stage,
     Out,
+    Seed,
+    Traces,
+    Length,
+    Letters,
 }
 
 /// An option with one text, and the commands that take it.
@@ -45,12 +49,18 @@ pub(crate) struct CommandForm {
 }
 
 /// The commands that read a log.
-const READING: &[Command] = &[Command::Mine, Command::Kb];
+const READING: &[Command] = &[Command::Mine, Command::Kb, Command::Check];
 
 /// The commands that mine a log.
 const MINING: &[Command] = &[Command::Mine];
 
-const OPTIONS: [CommandOption; 11] = [
+/// The commands that generate a log.
+const GENERATING: &[Command] = &[Command::Gen, Command::Sample];
+
+/// The commands that write the log that they generate.
+const WRITING: &[Command] = &[Command::Gen];
+
+const OPTIONS: [CommandOption; 15] = [
     CommandOption {
         number: 2,
         name: "format",
@@ -117,24 +127,68 @@ const OPTIONS: [CommandOption; 11] = [
         commands: MINING,
         field: Field::Out,
     },
+    CommandOption {
+        number: 13,
+        name: "seed",
+        commands: GENERATING,
+        field: Field::Seed,
+    },
+    CommandOption {
+        number: 14,
+        name: "traces",
+        commands: WRITING,
+        field: Field::Traces,
+    },
+    CommandOption {
+        number: 15,
+        name: "length",
+        commands: WRITING,
+        field: Field::Length,
+    },
+    CommandOption {
+        number: 16,
+        name: "letters",
+        commands: WRITING,
+        field: Field::Letters,
+    },
 ];
 
+const MODEL: Positional = Positional {
+    name: "model",
+    is_required: true,
+};
+
 /// The log, standard input where it isn't given.
-const LOG: &[Positional] = &[Positional {
+const LOG: Positional = Positional {
     name: "log",
     is_required: false,
-}];
+};
 
-const COMMANDS: [CommandForm; 2] = [
+const COMMANDS: [CommandForm; 5] = [
     CommandForm {
         command: Command::Mine,
         name: "mine",
-        positionals: LOG,
+        positionals: &[LOG],
     },
     CommandForm {
         command: Command::Kb,
         name: "kb",
-        positionals: LOG,
+        positionals: &[LOG],
+    },
+    CommandForm {
+        command: Command::Check,
+        name: "check",
+        positionals: &[MODEL, LOG],
+    },
+    CommandForm {
+        command: Command::Gen,
+        name: "gen",
+        positionals: &[],
+    },
+    CommandForm {
+        command: Command::Sample,
+        name: "sample",
+        positionals: &[],
     },
 ];
 

@@ -1,5 +1,5 @@
 -- The model that a JSON value is, by rules on its members: the first rule that fails is the refusal.
-use Rattle.std.specs.Prelude.{ℕ, ◌+◌, ◌==◌, ◌||◌, List, [], ◌∷◌, Bool, true, false, if◌then◌else◌, nat_le, fold, codes, length, Option, None, Some, option_map, option_and_then, unwrap_or, Result, Ok, Err}
+use Rattle.std.specs.Prelude.{◌≡◌, ◌<◌, ◌≤◌, ℕ, ◌+◌, ◌==◌, ◌||◌, List, [], ◌∷◌, ◌++◌, Bool, true, false, if◌then◌else◌, nat_le, fold, codes, length, map, slice_index_or, All, Option, None, Some, option_map, option_and_then, unwrap_or, Result, Ok, Err}
 use Rattle.std.specs.List.{find}
 use Rattle.std.specs.Option.{ok_or}
 use Rattle.std.specs.Str.{bytes_eq, is_utf8}
@@ -8,17 +8,29 @@ use Rattle.serde_json.specs.Find.{get, as_str, as_array, as_number, as_u64, is_f
 use Rattle.serde_json.specs.Read.{read}
 use Rattle.decl_base.specs.Limits.{standard}
 use Rattle.decl_base.specs.declared.refusal.Refusal.{Refusal}
-use Rattle.decl_base.specs.declared.refusal.Refusal.TheVariants.{NotJson, ModelShape, Candidates, Activities, UnknownTemplate, Parameters, SameParameter}
+use Rattle.decl_base.specs.declared.refusal.Refusal.TheVariants.{NotJson, ModelShape, Candidates, Activities, UnknownTemplate, Parameters, SameParameter, Memory}
 use Rattle.event_log.specs.Logs.{with_name, first_seen, place_of}
-use Rattle.template_core.specs.Constraints.{arity}
+use Rattle.template_core.specs.Constraints.{arity, IsWellMadeFor}
 use Rattle.template_core.specs.declared.constraint.Constraint.{Constraint}
 use Rattle.template_core.specs.declared.kind.Kind.{Kind}
 use Rattle.template_set.specs.Names.{all_kinds, name_of}
+use Rattle.scoring.specs.declared.scored.Scored.{Scored}
 
 -- the names of a model, each once, and its constraints over their places
 pub record Known : Type 0 where
   pub names : List (List ℕ)
   pub constraints : List Constraint
+
+-- each name stands once: at its place, and nowhere before it
+abbrev pub StandOnce : List (List ℕ) → Type 0
+StandOnce names = (place : ℕ) → place < length names → place_of names (slice_index_or names place []) ≡ place
+
+-- names and constraints that a model may have
+pub record IsModel (model : Known) : Type 0 where
+  pub once : StandOnce model.names
+  pub few_names : length model.names ≤ standard.activities
+  pub few_constraints : length model.constraints ≤ standard.candidates
+  pub made : All (IsWellMadeFor (length model.names)) model.constraints
 
 -- the first refusal decides
 infixl 10 ◌>>=◌
@@ -96,6 +108,10 @@ is_twice [] = false
 is_twice (first ∷ []) = false
 is_twice (first ∷ second ∷ names) = bytes_eq first second
 
+-- one name, or two, as the template has activities
+abbrev pub activities : Kind → List ℕ → List ℕ → List (List ℕ)
+activities kind first second = if arity kind == 1 then first ∷ [] else first ∷ second ∷ []
+
 -- the constraint of a template and the names that are put in, over the places of the names of a model
 abbrev pub put_in : Kind → List (List ℕ) → List (List ℕ) → Constraint
 put_in kind names [] = record { kind = kind; first = 0; second = 0 }
@@ -112,13 +128,12 @@ item_read number names value = do
   more ← within (fold with_name names different)
   Ok (put_in kind more different, more)
 
--- the items from that number on
-abbrev pub items_read : ℕ → List (List ℕ) → List Data → Result Known Refusal
-items_read number names [] = Ok (record { names = names; constraints = [] })
-items_read number names (value ∷ values) = do
-  first ← item_read number names value
-  rest ← items_read (number + 1) first.1 values
-  Ok (record { names = rest.names; constraints = first.0 ∷ rest.constraints })
+-- the items from that number on, behind a model so far: one after another, the names and the constraints go last
+abbrev pub items_read : ℕ → Known → List Data → Result Known Refusal
+items_read number so_far [] = Ok so_far
+items_read number so_far (value ∷ values) = do
+  next ← item_read number so_far.names value
+  items_read (number + 1) (record { names = next.1; constraints = so_far.constraints ++ next.0 ∷ [] }) values
 
 -- ---- the model of a value and of bytes
 
@@ -127,7 +142,7 @@ model_of value = do
   shape ← ok_or (shape_of value) (ModelShape 0)
   constraints ← (if nat_le (length shape.constraints) standard.candidates then Ok shape.constraints else Err (Candidates (length shape.constraints)))
   names ← within (first_seen shape.tasks)
-  items_read 1 names constraints
+  items_read 1 (record { names = names; constraints = [] }) constraints
 
 -- the value that the bytes are, where they are JSON
 abbrev pub json_of : List ℕ → Result Data Refusal
@@ -135,3 +150,31 @@ json_of bytes = ok_or (if is_utf8 bytes then read bytes else None) NotJson
 
 abbrev pub model_of_bytes : List ℕ → Result Known Refusal
 model_of_bytes bytes = json_of bytes >>= model_of
+
+-- ---- what a report lists
+
+-- the names and the constraints, without their scores
+abbrev pub listed : List (List ℕ) → List Scored → Known
+listed names list = record { names = names; constraints = map (λ scored. scored.constraint) list }
+
+abbrev pub IsListed : List (List ℕ) → List Scored → Type 0
+IsListed names list = IsModel (listed names list)
+
+-- ---- why there is none
+
+-- why there is no answer, or want of memory
+abbrev pub ModelCause : {A : Type 0} → Result A Refusal → Refusal → Type 0
+ModelCause outcome Memory = Unit {0}
+ModelCause outcome cause = outcome ≡ Err cause
+
+-- the refusals that a model may meet
+abbrev pub IsOfModel : Refusal → Type 0
+IsOfModel NotJson = Unit {0}
+IsOfModel (ModelShape at) = Unit {0}
+IsOfModel (UnknownTemplate at) = Unit {0}
+IsOfModel (Parameters at) = Unit {0}
+IsOfModel (SameParameter at) = Unit {0}
+IsOfModel (Activities limit) = Unit {0}
+IsOfModel (Candidates count) = Unit {0}
+IsOfModel Memory = Unit {0}
+IsOfModel other = ⊥

@@ -1,12 +1,23 @@
-//! Reports as JSON values, and their texts.
+//! Reports as JSON values, their texts, and the models that are read back.
 #![tactic(auto)]
 
 mod constraints;
 mod decisions;
+mod items;
+mod known;
+mod laws;
+mod reading;
 mod report;
+mod shapes;
 mod text;
 
 pub use constraints::trace_value;
 pub use decisions::staying;
+pub use known::KnownModel;
+pub use laws::{
+    models_are_within, refusals_are_of_models, reports_are_shallow, reports_have_no_float,
+    reports_read_back,
+};
+pub use reading::read_model;
 pub use report::{consistent_value, report_value, scores_value};
 pub use text::text_of;

@@ -1,1 +1,3 @@
 pub mod Joined
+mod TableRows
+pub mod Written

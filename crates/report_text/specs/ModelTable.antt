@@ -25,7 +25,7 @@ scored_line names s = scored_text names s ++ 10 ∷ []
 
 -- the same with the trace that breaks it alone, as a JSON list of names
 abbrev pub witnessed_line : List (List ℕ) → Scored → List ℕ → List ℕ
-witnessed_line names s witness = scored_text names s ++ 32 ∷ [] ++ compact_text (trace_value names witness) ++ 10 ∷ []
+witnessed_line names s witness = scored_text names s ++ (32 ∷ [] ++ compact_text (trace_value names witness) ++ 10 ∷ [])
 
 -- all candidates
 abbrev pub scores_table_text : List (List ℕ) → List Scored → List ℕ
@@ -35,7 +35,10 @@ scores_table_text names list = model_heading ++ flat_map (scored_line names) lis
 abbrev pub consistent_table_text : List (List ℕ) → List Scored → List Decision → List ℕ
 consistent_table_text names list decisions = scores_table_text names (staying list decisions)
 
+-- constraints, each with its witness
+abbrev pub witnessed_table_text : List (List ℕ) → List (Scored × List ℕ) → List ℕ
+witnessed_table_text names list = model_heading ++ flat_map (λ p. witnessed_line names p.0 p.1) list
+
 -- those that stay, each with its witness
 abbrev pub model_table_text : List (List ℕ) → List Scored → List Decision → List (List ℕ) → List ℕ
-model_table_text names list decisions witnesses =
-    model_heading ++ flat_map (λ p. witnessed_line names p.0 p.1) (zip (staying list decisions) witnesses)
+model_table_text names list decisions witnesses = witnessed_table_text names (zip (staying list decisions) witnesses)

@@ -99,5 +99,6 @@ fn put_names(out: &mut Vec<u8>, texts: &[String], constraint: &Constraint) -> Re
         return Ok(());
     }
     out.push(b',')?;
-    out.extend_from_slice(texts[constraint.second as usize].as_bytes())
+    out.extend_from_slice(texts[constraint.second as usize].as_bytes())?;
+    Ok(())
 }

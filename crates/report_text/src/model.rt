@@ -1,9 +1,10 @@
 ghost use Rattle.std.specs.Prelude.{◌≡◌, ◌<◌, ◌++◌, ◌∷◌, [], List, ℕ, map, string_bytes, length, All, IfOk, IfErr, OnOk};
+ghost use Rattle.std.specs.List.{zip};
 ghost use Rattle.serde_json.specs.Written.{compact_text};
-ghost use Rattle.template_core.specs.Constraints.{IsWellMadeFor};
+ghost use Rattle.template_core.specs.Constraints.{arity, IsWellMadeFor};
 ghost use Rattle.model_json.specs.Report.{staying, trace_value};
 ghost use Rattle.report_text.specs.Fields.{quoted, column};
-ghost use Rattle.report_text.specs.ModelTable.{score_text, scored_text, scores_table_text, consistent_table_text, model_table_text};
+ghost use Rattle.report_text.specs.ModelTable.{score_text, scored_text, scores_table_text, consistent_table_text, witnessed_table_text, model_table_text};
 
 use crate::fields::{put_column, put_constraint, quote_all};
 use decl_base::{Frac, Refusal, Trace};
@@ -66,7 +67,20 @@ pub fn model_table(
     ensures err { IfErr result (λ e. e ≡ Refusal.Memory) }
 {
     let kept = staying(alloc, list, reduced.decisions())?;
-    let witnesses = reduced.witnesses();
+    Ok(witnessed_table(alloc, names, &kept, reduced.witnesses())?)
+}
+
+fn witnessed_table(
+    alloc: Global,
+    names: &Alphabet,
+    kept: &[Scored],
+    witnesses: &[Trace],
+) -> Result<Vec<u8>, AllocError>
+    requires made { All (λ scored. IsWellMadeFor (length names.now.names) scored.constraint) kept.now }
+    requires witnesses { length witnesses.now ≡ length kept.now }
+    requires witness { All (λ trace. All (λ rank. rank < length names.now.names) trace) witnesses.now }
+    ensures { IfOk result (λ text. text.items ≡ witnessed_table_text names.now.names (zip kept.now witnesses.now)) }
+{
     let texts = quote_all(alloc, names)?;
     let mut out = Vec::new(alloc);
     out.extend_from_slice(HEADING.as_bytes())?;
@@ -91,7 +105,8 @@ fn put_scored(
     put_score(alloc, out, &scored.support)?;
     put_score(alloc, out, &scored.confidence)?;
     put_score(alloc, out, &scored.interest)?;
-    put_constraint(out, texts, &scored.constraint)
+    put_constraint(out, texts, &scored.constraint)?;
+    Ok(())
 }
 
 /// A score right in its column, and a space.
@@ -117,4 +132,46 @@ fn put_witness(
     out.extend_from_slice(text.as_bytes())?;
     out.push(b'\n')?;
     Ok(())
+}
+
+#[cfg(test)]
+mod tests {
+    use super::*;
+    use std::test::Fail;
+    use template_core::{Constraint, Kind};
+
+    fn of_one(kind: Kind) -> Scored
+        requires { arity kind ≡ 1 }
+        ensures { IsWellMadeFor 1 result.constraint }
+    {
+        let whole = Frac::new(1, 1);
+        Scored {
+            constraint: Constraint {
+                kind,
+                first: 0,
+                second: 0,
+            },
+            support: whole,
+            confidence: whole,
+            interest: whole,
+        }
+    }
+
+    /// The constraints that are listed for the log of one trace of one event.
+    #[test]
+    fn one_event(rt: HostRuntime) -> Result<(), Fail> {
+        let mut names = Alphabet::new(rt.alloc(), 1_000);
+        names.add("a")?;
+        let list = [of_one(Kind::Init), of_one(Kind::AtMostOne)];
+        let witnesses = [Trace::of(rt.alloc(), &[])?, Trace::of(rt.alloc(), &[0, 0])?];
+        let text = witnessed_table(rt.alloc(), &names, &list, &witnesses)?;
+        let expected =
+            "     support   confidence     interest constraint\n         1/1          1/1          1/1 Init(\"a\") []\n         1/1          1/1          1/1 AtMostOne(\"a\") [\"a\",\"a\"]\n";
+        assert_eq!(rt; text.as_slice(), expected.as_bytes());
+        let text = scores_table(rt.alloc(), &names, &list)?;
+        let expected =
+            "     support   confidence     interest constraint\n         1/1          1/1          1/1 Init(\"a\")\n         1/1          1/1          1/1 AtMostOne(\"a\")\n";
+        assert_eq!(rt; text.as_slice(), expected.as_bytes());
+        Ok(())
+    }
 }

@@ -1,6 +1,7 @@
 -- A check of what was read, and its outcome.
-use Rattle.std.proofs.Common.{◌≡◌, ℕ, suc, ◌+◌, ◌<◌, ◌≤◌, List, [], ◌∷◌, Bool, true, false, ◌||◌, cond, not, nat_lt, length, map, Option, None, Some, Result, Ok, Err, IfSome, ◌⊎◌, inl, inr, refl, sym, ap, ap₂, subst, ◌∙◌, arith}
+use Rattle.std.proofs.Common.{◌≡◌, ℕ, zero, suc, take, ◌+◌, ◌<◌, ◌≤◌, List, [], ◌∷◌, Bool, true, false, ◌||◌, cond, not, nat_lt, length, map, Option, None, Some, Result, Ok, Err, IfSome, ◌⊎◌, inl, inr, refl, sym, ap, ap₂, subst, ◌∙◌, arith}
 use Rattle.std.proofs.lemmas.Bool.Decides.{nat_tests}
+use Rattle.std.proofs.Math.Seq.{take-nil}
 use Rattle.std.specs.List.{list_any, position, position_or_len}
 use Rattle.std.specs.Prelude.{Contains, fold, is_some, option_map, if◌then◌else◌}
 use Rattle.std.specs.Str.{bytes_eq}
@@ -12,7 +13,9 @@ use Rattle.decl_outside.specs.Inputs.{FailedIn, InputState, noted}
 use Rattle.model_json.specs.Model.{Known}
 use Rattle.minerful_words.specs.declared.settings.Settings.{Settings}
 use Rattle.template_core.specs.declared.constraint.Constraint.{Constraint}
+use Rattle.report_text.specs.CheckTable.{check_table_text}
 use Rattle.trace_check.specs.Checking.{checked}
+use Rattle.trace_check.specs.declared.checked.Checked.{Checked}
 use Rattle.minerful_core.specs.Commands.{OfContents}
 use Rattle.minerful_core.specs.Outcome.{Outcome, answers, refuses, is_broken_by, keeps_named, log_in, model_in, IsCheckOutcome, IsOutcomeOf}
 use Rattle.minerful_core.specs.Refusing.{MayRefuse}
@@ -22,30 +25,43 @@ use Rattle.minerful_core.proofs.Refusing.{MayRefuse-weaker, told}
 
 -- ---- whether some trace breaks some constraint
 
+shift : (m n : ℕ) → nat_lt (1 + m) (suc n) ≡ nat_lt m n
+shift m n = grind (arith, nat_tests)
+
+at_start : (n : ℕ) → nat_lt 0 (suc n) ≡ true
+at_start n = grind (arith, nat_tests)
+
 -- a place passes where some element does
 passes-somewhere : {X : Type 0} (p : X → Bool) (xs : List X) → nat_lt (position_or_len p xs) (length xs) ≡ list_any p xs
 passes-somewhere p [] = refl
 passes-somewhere p (x ∷ xs) = go (p x) refl (passes-somewhere p xs)
   where
     go : (b : Bool) → p x ≡ b → nat_lt (position_or_len p xs) (length xs) ≡ list_any p xs → nat_lt (position_or_len p (x ∷ xs)) (length (x ∷ xs)) ≡ (p x || list_any p xs)
-    go true e rest = rw e in refl
-    go false e rest = rw e in rest
+    go true e rest = rw e (at_start (length xs))
+    go false e rest = rw e (shift (position_or_len p xs) (length xs) ∙ rest)
 
 some-place : {X Y : Type 0} (p : X → Bool) (f : ℕ → Y) (xs : List X) → is_some (option_map f (position p xs)) ≡ list_any p xs
 some-place p f xs = go (nat_lt (position_or_len p xs) (length xs)) refl ∙ passes-somewhere p xs
   where
     go : (b : Bool) → nat_lt (position_or_len p xs) (length xs) ≡ b → is_some (option_map f (position p xs)) ≡ nat_lt (position_or_len p xs) (length xs)
-    go true e = rw e in refl
-    go false e = rw e in refl
+    go true e = rw e refl
+    go false e = rw e refl
 
 pub broken-rows : (model : Known) (list : List Constraint) (log : List (List (List ℕ)))
     → list_any (λ row. is_some row.broken) (checked model.names list log) ≡ list_any (λ c. list_any (λ trace. not (keeps_named model c trace)) log) list
 broken-rows model [] log = refl
 broken-rows model (c ∷ list) log = ap₂ (λ a b. a || b) (some-place (λ trace. not (keeps_named model c trace)) _ log) (broken-rows model list log)
 
-pub is_end : (b : Bool) → IsEnd (cond b status.Differs status.Done)
-is_end true = tt
-is_end false = tt
+pub compared : (model : Known) (log : List (List (List ℕ))) (names other : List (List ℕ)) (list same : List Constraint) (rows : List Checked) (broken : Bool) (text : List ℕ)
+    → names ≡ model.names → list ≡ model.constraints → other ≡ model.names → same ≡ model.constraints
+    → rows ≡ checked names list log → broken ≡ list_any (λ row. is_some row.broken) rows → text ≡ check_table_text other same rows
+    → IsCheckOutcome model log (answers (if broken then status.Differs else status.Done) text)
+compared model log names other list same rows broken text names_are list_is other_is same_is rows_are broken_is text_is =
+    let of_model : rows ≡ checked model.names model.constraints log = rows_are ∙ ap (λ n. checked n list log) names_are ∙ ap (λ l. checked model.names l log) list_is in
+    let is_broken : broken ≡ is_broken_by log model = broken_is ∙ ap (list_any (λ row. is_some row.broken)) of_model ∙ broken-rows model model.constraints log in
+    let table : text ≡ check_table_text model.names model.constraints (checked model.names model.constraints log)
+    = text_is ∙ ap (λ n. check_table_text n same rows) other_is ∙ ap (λ l. check_table_text model.names l rows) same_is ∙ ap (check_table_text model.names model.constraints) of_model in
+    ap₂ (λ b t. answers (if b then status.Differs else status.Done) t) is_broken table
 
 -- ---- the two inputs
 
@@ -56,13 +72,20 @@ failed_later name old mid new later h = record { rose = rises old.faults mid.fau
     rises : (a b c : ℕ) → a ≤ b → Rose b c → Rose a c
     rises a b c l h = omega (arith, l, h)
 
-pub asks_both : (first second : List ℕ) (old mid new : InputState) → mid.names ≡ noted old.names first → AsksFor (second ∷ []) mid new → AsksFor (first ∷ second ∷ []) old new
-asks_both first second old mid new asked (0, h) = (1, h ∙ asked)
-asks_both first second old mid new asked (suc n, h) = (suc (suc n), h ∙ ?)
+module _ (first second : List ℕ) (old mid new : InputState) where
+  pub asks_first : AsksFor (first ∷ []) old new → AsksFor (first ∷ second ∷ []) old new
+  asks_first h = go h.0 h.1
+    where
+      go : (n : ℕ) → new.names ≡ fold noted old.names (take n (first ∷ [])) → AsksFor (first ∷ second ∷ []) old new
+      go zero e = (0, e)
+      go (suc n) e = (1, e ∙ ap (fold noted (noted old.names first)) (take-nil n))
 
-pub asks_first : (first second : List ℕ) (old new : InputState) → AsksFor (first ∷ []) old new → AsksFor (first ∷ second ∷ []) old new
-asks_first first second old new (0, h) = (0, h)
-asks_first first second old new (suc n, h) = (1, h ∙ ?)
+  pub asks_both : mid.names ≡ noted old.names first → AsksFor (second ∷ []) mid new → AsksFor (first ∷ second ∷ []) old new
+  asks_both asked h = go h.0 h.1
+    where
+      go : (n : ℕ) → new.names ≡ fold noted mid.names (take n (second ∷ [])) → AsksFor (first ∷ second ∷ []) old new
+      go zero e = (1, e ∙ asked)
+      go (suc n) e = (2, e ∙ ap (fold noted (noted mid.names second)) (take-nil n) ∙ ap (λ names. noted names second) asked)
 
 -- ---- the outcome of a check
 

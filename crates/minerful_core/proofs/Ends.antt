@@ -26,10 +26,10 @@ module _ (words : List (List ℕ)) (inputs : InputState) (s : Status) (old_out n
   gives_status = told_of (inputs_of words) inputs (λ contents. HasStatus (IsOutcome words contents) s) (λ contents may. (ends contents may).0)
 
   pub gives_output : IfSome inputs.contents (λ contents. WritesOutput (IsOutcome words contents) s old_out new_out)
-  gives_output = told_of (inputs_of words) inputs (λ contents. WritesOutput (IsOutcome words contents) s old_out new_out) (λ contents may. (ends contents may).1.0)
+  gives_output = told_of (inputs_of words) inputs (λ contents. WritesOutput (IsOutcome words contents) s old_out new_out) (λ contents may. (ends contents may).1)
 
   pub gives_error : IfSome inputs.contents (λ contents. WritesError (IsOutcome words contents) s old_err new_err)
-  gives_error = told_of (inputs_of words) inputs (λ contents. WritesError (IsOutcome words contents) s old_err new_err) (λ contents may. (ends contents may).1.1)
+  gives_error = told_of (inputs_of words) inputs (λ contents. WritesError (IsOutcome words contents) s old_err new_err) (λ contents may. (ends contents may).2)
 
   pub gives_alone : inputs_of words ≡ [] → (contents : List ℕ → List ℕ) → EndsWith (IsOutcome words contents) s old_out new_out old_err new_err
   gives_alone none contents = ends contents (inl none)

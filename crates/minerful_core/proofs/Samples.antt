@@ -1,13 +1,12 @@
--- What the reading of a generated log comes to.
-use Rattle.std.proofs.Common.{◌≡◌, ℕ, List, Option, None, Some, Result, Ok, Err, refl, sym, ap, subst, ◌∙◌, arith}
+-- A generated log that is mined, and the reading of a text in memory.
+use Rattle.std.proofs.Common.{◌≡◌, ℕ, ◌+◌, List, [], ◌++◌, Option, Some, Result, Ok, IfSome, take, drop, sym, ap, subst, ◌∙◌, take-append-drop}
+use Rattle.std.proofs.lemmas.List.{drop-drop}
+use Rattle.std.proofs.Math.Seq.{drop-nil}
 use Rattle.decl_base.specs.Limits.{standard}
 use Rattle.decl_base.specs.declared.limits.Limits.{Limits}
 use Rattle.decl_base.specs.declared.refusal.Refusal.{Refusal}
-use Rattle.decl_base.specs.declared.refusal.Refusal.TheVariants as refusal
-use Rattle.decl_outside.specs.Inputs.{FailedIn, InputState}
 use Rattle.minerful_words.specs.declared.settings.Command.TheVariants.{Sample}
 use Rattle.minerful_words.specs.declared.settings.Settings.{Settings}
-use Rattle.strings_log.specs.Reading.{IsFault, ReadCause}
 use Rattle.strings_log.specs.StringLog.{string_log}
 use Rattle.minerful_core.specs.Outcome.{Outcome, refuses, sample_of, IsLogOutcome, IsOutcomeOf}
 use Rattle.minerful_core.specs.Refusing.{MayRefuse}
@@ -24,21 +23,20 @@ module _ (s : Settings) where
   sample_refusal log r read h =
       MayRefuse-weaker ⊥ ⊥ (λ r. IsLogOutcome Sample s log (refuses r)) (λ r. Is (refuses r)) (λ no. no) (λ r. sample_outcome log (refuses r) read) r h
 
-  no_sample : (limits : Limits) (text : List ℕ) (r : Refusal) → limits ≡ standard → text ≡ sample_of s.seed → string_log limits text ≡ Err r → Is (refuses r)
-  no_sample limits text r limits_are text_is e =
-      subst (λ found. IsOutcomeOf (IsLogOutcome Sample s) found (refuses r)) (sym (ap (λ t. string_log standard t) (sym text_is) ∙ ap (λ l. string_log l text) (sym limits_are) ∙ e)) refl
+  -- what was read of the generated text
+  pub read_sample : (limits : Limits) (left : Option (List ℕ)) (text : List ℕ) (found : Result (List (List (List ℕ))) Refusal) → limits ≡ standard → left ≡ Some text → text ≡ sample_of s.seed
+      → IfSome left (λ bytes. string_log limits bytes ≡ found) → string_log standard (sample_of s.seed) ≡ found
+  read_sample limits left text found limits_are left_is text_is read =
+      ap (λ t. string_log standard t) (sym text_is) ∙ ap (λ l. string_log l text) (sym limits_are)
+      ∙ subst (λ l. IfSome l (λ bytes. string_log limits bytes ≡ found)) left_is read
 
-  fault : (limits : Limits) (text : List ℕ) (left : Option (List ℕ)) (r : Refusal) → left ≡ Some text → IsFault limits left r → string_log limits text ≡ Err r
-  fault limits text left r is h = subst (λ l. IsFault limits l r) is h
+-- ---- reading a text in memory
 
-  -- a text in memory never fails
-  pub no_log_of_text : (limits : Limits) (text : List ℕ) (old new : InputState) (r : Refusal) → limits ≡ standard → text ≡ sample_of s.seed → old.left ≡ Some text → new.faults ≡ 0
-      → ReadCause limits old new r → MayRefuse ⊥ (λ r. Is (refuses r)) r
-  no_log_of_text limits text old new refusal.ReadFault is same left none h = absurd (omega (arith, none, h.rose))
-  no_log_of_text limits text old new (refusal.LineLong n) is same left none h = no_sample limits text (refusal.LineLong n) is same (fault limits text old.left (refusal.LineLong n) left h)
-  no_log_of_text limits text old new (refusal.Traces n) is same left none h = no_sample limits text (refusal.Traces n) is same (fault limits text old.left (refusal.Traces n) left h.1)
-  no_log_of_text limits text old new (refusal.NotUtf8 n) is same left none h = no_sample limits text (refusal.NotUtf8 n) is same (fault limits text old.left (refusal.NotUtf8 n) left h)
-  no_log_of_text limits text old new (refusal.Events n) is same left none h = no_sample limits text (refusal.Events n) is same (fault limits text old.left (refusal.Events n) left h.1)
-  no_log_of_text limits text old new (refusal.Activities n) is same left none h = no_sample limits text (refusal.Activities n) is same (fault limits text old.left (refusal.Activities n) left h.1)
-  no_log_of_text limits text old new refusal.Memory is same left none h = tt
-  no_log_of_text limits text old new r is same left none h = absurd h
+module _ (text : List ℕ) (place n : ℕ) where
+  -- what was copied is the prefix of what was left
+  pub copied : (buffer : List ℕ) → take n buffer ≡ take n (drop place text) → drop place text ≡ take n buffer ++ drop (place + n) text
+  copied buffer same =
+      sym (take-append-drop n (drop place text)) ∙ ap (λ l. l ++ drop n (drop place text)) (sym same) ∙ ap (λ l. take n buffer ++ l) (drop-drop n place text)
+
+  pub at_end : drop place text ≡ [] → drop (place + n) text ≡ []
+  at_end none = sym (drop-drop n place text) ∙ ap (drop n) none ∙ drop-nil n

@@ -45,11 +45,18 @@ impl Inputs for TextInput {
         requires open { (state_of self.old).is_open ≡ true }
         ensures { Reads (state_of self.old) (state_of self.new) buffer.new result }
     {
-        let rest = self.text.get(self.place..).unwrap_or(&[]);
+        let rest = rest_of(&self.text, self.place);
         let count = copy_front(rest, buffer);
         self.place += count;
         Ok(count)
     }
+}
+
+/// What is left from a place on.
+fn rest_of(text: &[u8], place: usize) -> &[u8]
+    ensures { result.now ≡ drop place text.now }
+{
+    text.get(place..).unwrap_or(&[])
 }
 
 /// Copies a prefix of the bytes to the front of the buffer, and answers its length.

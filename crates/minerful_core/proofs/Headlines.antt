@@ -7,10 +7,13 @@ use Rattle.decl_base.specs.Limits.{standard}
 use Rattle.decl_base.specs.Refusal.{status_of}
 use Rattle.decl_base.specs.declared.refusal.Refusal.{Refusal}
 use Rattle.decl_base.specs.declared.refusal.Refusal.TheVariants as refusal
+use Rattle.decl_base.specs.declared.status.Status.{Status}
 use Rattle.decl_base.specs.declared.status.Status.TheVariants as status
 use Rattle.decl_outside.specs.Sink.{SinkState}
 use Rattle.event_log.specs.Logs.{by_ranks, sorted_names}
+use Rattle.minerful_words.specs.Settings.{settings}
 use Rattle.minerful_words.specs.declared.settings.Command.TheVariants.{Mine}
+use Rattle.minerful_words.specs.declared.settings.Out.TheVariants.{Json}
 use Rattle.minerful_words.specs.declared.settings.Settings.{Settings}
 use Rattle.minerful_words.specs.declared.settings.Stage.TheVariants.{Model}
 use Rattle.reduce_model.proofs.Consequences.{keepable, left_out, witnesses-break}
@@ -20,7 +23,7 @@ use Rattle.scoring.proofs.Members.{candidates_are}
 use Rattle.scoring.specs.Scores.{scored}
 use Rattle.template_core.specs.Constraints.{IsWellMadeFor}
 use Rattle.minerful_core.specs.Headline.{IsHeadline, MinesModel, PrintsModel}
-use Rattle.minerful_core.specs.Outcome.{answers, candidates_in, constraints_in, log_of, model_text, refuses, IsLogOutcome, IsModelOutcome, IsReadOutcome, IsSettingsOutcome, IsStageOutcome}
+use Rattle.minerful_core.specs.Outcome.{answers, candidates_in, constraints_in, log_in, log_of, model_text, refuses, text_of_log, IsCommandOutcome, IsLogOutcome, IsModelOutcome, IsOutcome, IsOutcomeOf, IsSettingsOutcome, IsStageOutcome}
 use Rattle.minerful_core.specs.Run.{WritesOutput}
 use Rattle.minerful_core.proofs.Models.{constraints-staying}
 use Rattle.minerful_core.proofs.Refusing.{told}
@@ -56,27 +59,31 @@ second true P Q never h = absurd (never h)
 second false P Q never h = h
 
 module _ (text : List ℕ) (old new : SinkState) (held : new.held ≡ append_known old.held text) where
-  of_log : (s : Settings) (bytes : List ℕ) (log : List (List (List ℕ))) → s.stage ≡ Model → log_of s.format s.columns bytes ≡ Ok log → IsLogOutcome Mine s log (answers status.Done text) → PrintsModel s bytes old new
-  of_log s bytes log stage read is =
+  of_log : (s : Settings) (bytes : List ℕ) (log : List (List (List ℕ))) → MinesModel s → log_of s.format s.columns bytes ≡ Ok log → IsLogOutcome Mine s log (answers status.Done text) → PrintsModel s bytes old new
+  of_log s bytes log mines read is =
       let list = candidates_in s log in
-      let staged = second (nat_lt standard.candidates (length list)) (answers status.Done text ≡ refuses (refusal.Candidates (length list))) (IsStageOutcome s.stage s.states list log (answers status.Done text)) (λ e. cc) is in
-      let told : IsModelOutcome s.states list log (answers status.Done text) = subst (λ stage. IsStageOutcome stage s.states list log (answers status.Done text)) stage staged in
-      let same : answers status.Done text ≡ answers status.Done (model_text list told.0 log) = told.2 in
-      let text_is : text ≡ model_text list told.0 log = cc in
+      let staged = second (nat_lt standard.candidates (length list)) (answers status.Done text ≡ refuses (refusal.Candidates (length list))) (IsStageOutcome s.stage s.out s.states list log (answers status.Done text)) (λ e. cc) is in
+      let modelled : IsStageOutcome Model s.out s.states list log (answers status.Done text) = subst (λ stage. IsStageOutcome stage s.out s.states list log (answers status.Done text)) mines.stage staged in
+      let told : IsModelOutcome (model_text Json list) s.states list log (answers status.Done text) = subst (λ out. IsStageOutcome Model out s.states list log (answers status.Done text)) mines.out modelled in
+      let same : answers status.Done text ≡ answers status.Done (text_of_log (model_text Json list told.0) log) = told.2 in
+      let text_is : text ≡ text_of_log (model_text Json list told.0) log = cc in
       (log, list, told.0, read, held ∙ ap (append_known old.held) text_is, headline s log told.0 told.1)
 
-  of_read : (s : Settings) (bytes : List ℕ) (read : Result (List (List (List ℕ))) Refusal) → MinesModel s → log_of s.format s.columns bytes ≡ read → IsReadOutcome s read (answers status.Done text) → PrintsModel s bytes old new
+  of_read : (s : Settings) (bytes : List ℕ) (read : Result (List (List (List ℕ))) Refusal) → MinesModel s → log_of s.format s.columns bytes ≡ read → IsOutcomeOf (IsLogOutcome Mine s) read (answers status.Done text) → PrintsModel s bytes old new
   of_read s bytes (Err r) mines e is = absurd (cc)
-  of_read s bytes (Ok log) mines e is = of_log s bytes log mines.stage e (subst (λ command. IsLogOutcome command s log (answers status.Done text)) mines.command is)
+  of_read s bytes (Ok log) mines e is = of_log s bytes log mines e is
 
   of_words : (wanted : Result Settings ℕ) (contents : List ℕ → List ℕ) → IsSettingsOutcome wanted contents (answers status.Done text) → IfOk wanted (λ s. MinesModel s → PrintsModel s (contents s.log) old new)
   of_words (Err at) contents is = tt
-  of_words (Ok s) contents is = λ mines. of_read s (contents s.log) (log_of s.format s.columns (contents s.log)) mines refl is
+  of_words (Ok s) contents is = λ mines.
+      of_read s (contents s.log) (log_in s contents) mines refl (subst (λ command. IsCommandOutcome command s contents (answers status.Done text)) mines.command is)
 
 -- where a run ends well, its text is that of its outcome
-pub headline_of : (wanted : Result Settings ℕ) (contents : Option (List ℕ → List ℕ)) (old new : SinkState)
-    → IfSome contents (λ contents. WritesOutput (IsSettingsOutcome wanted contents) status.Done old new) → IfSome contents (λ contents. IfOk wanted (λ s. MinesModel s → PrintsModel s (contents s.log) old new))
-headline_of wanted contents old new = told contents _ _ (λ c h. of_words h.0 old new h.2 wanted c h.1)
+pub headline_of : (words : List (List ℕ)) (contents : Option (List ℕ → List ℕ)) (s : Status) → s ≡ status.Done → (old new : SinkState)
+    → IfSome contents (λ contents. WritesOutput (IsOutcome words contents) s old new) → IfSome contents (λ contents. IfOk (settings words) (λ given. MinesModel given → PrintsModel given (contents given.log) old new))
+headline_of words contents s done old new h =
+    told contents (λ c. WritesOutput (IsOutcome words c) status.Done old new) (λ c. IfOk (settings words) (λ given. MinesModel given → PrintsModel given (c given.log) old new))
+    (λ c h. of_words h.0 old new h.2 (settings words) c h.1) (subst (λ s. IfSome contents (λ contents. WritesOutput (IsOutcome words contents) s old new)) done h)
 
 -- a refusal has another status
 pub not_done : (r : Refusal) → status_of r ≡ status.Done → ⊥

@@ -7,18 +7,18 @@ use Rattle.decl_base.specs.declared.refusal.Refusal.TheVariants as refusal
 use Rattle.decl_base.specs.declared.status.Status.TheVariants as status
 use Rattle.event_log.specs.Logs.{by_ranks, events_of, sorted_names}
 use Rattle.minerful_words.specs.declared.settings.Command.{Command}
-use Rattle.minerful_words.specs.declared.settings.Command.TheVariants.{Mine, Kb}
+use Rattle.minerful_words.specs.declared.settings.Command.TheVariants.{Mine, Kb, Check, Gen, Sample}
+use Rattle.minerful_words.specs.declared.settings.Out.{Out}
 use Rattle.minerful_words.specs.declared.settings.Settings.{Settings}
 use Rattle.minerful_words.specs.declared.settings.Stage.{Stage}
 use Rattle.minerful_words.specs.declared.settings.Stage.TheVariants.{Consistent, Model, Scores}
-use Rattle.model_json.specs.Report.{consistent_report, model_report, report_text, scores_report}
-use Rattle.reduce_model.specs.Reduction.{IsReduction, RefusesReduction}
+use Rattle.reduce_model.specs.Reduction.{IsReduction, Reduction, RefusesReduction}
 use Rattle.reduce_model.specs.Sifting.{IsSift, RefusesSift}
 use Rattle.report_text.specs.KbTable.{kb_text}
 use Rattle.scoring.specs.Candidates.{candidates_of}
 use Rattle.scoring.specs.declared.scored.Scored.{Scored}
 use Rattle.scoring.proofs.ByPair.{length-count}
-use Rattle.minerful_core.specs.Outcome.{Outcome, answers, candidates_in, consistent_text, constraints_in, model_text, refuses, IsLogOutcome, IsReported, IsStageOutcome, IsTold}
+use Rattle.minerful_core.specs.Outcome.{LogText, Outcome, answers, candidates_in, consistent_text, constraints_in, model_text, refuses, scores_text, summary_text, text_of_log, IsLogOutcome, IsMinedOutcome, IsModelOutcome, IsReported, IsStageOutcome, IsTold}
 use Rattle.minerful_core.specs.SameTraces.{HoldTheSame}
 use Rattle.minerful_core.proofs.SameScores.{same_candidates, same_table}
 use Rattle.minerful_core.proofs.SameSums.{ranks_alike, same_events, same_names, same_sums}
@@ -42,29 +42,38 @@ module _ (log other : List (List (List ℕ))) (h : HoldTheSame log other) where
   same_traces : length log ≡ length other
   same_traces = length-count log ∙ same_sums log other h (λ t. cond true 1 0) ∙ sym (length-count other)
 
-  -- what is told of the names and the numbers of traces and events
-  told_same : (told : List (List ℕ) → ℕ → ℕ → List ℕ) → told (sorted_names log) (length log) (length (events_of log)) ≡ told (sorted_names other) (length other) (length (events_of other))
-  told_same told =
-      ap (λ names. told names (length log) (length (events_of log))) (same_names log other h)
-      ∙ ap (λ n. told (sorted_names other) n (length (events_of log))) same_traces
-      ∙ ap (told (sorted_names other) (length other)) (same_events log other h)
+  -- a text over the names and the numbers of traces and events
+  told_same : (text : LogText) → text_of_log text log ≡ text_of_log text other
+  told_same text =
+      ap (λ names. text names (length log) (length (events_of log))) (same_names log other h)
+      ∙ ap (λ n. text (sorted_names other) n (length (events_of log))) same_traces
+      ∙ ap (text (sorted_names other) (length other)) (same_events log other h)
 
-  stage_same : (stage : Stage) (states : ℕ) (list : List Scored) (o : Outcome) → IsStageOutcome stage states list log o → IsStageOutcome stage states list other o
-  stage_same Scores states list o is = is ∙ ap (answers status.Done) (told_same (λ names traces events. report_text (scores_report names list traces events)))
-  stage_same Consistent states list o is =
-      reported_same (λ n sifting. IsSift n states (constraints_in list) sifting) (λ n r. RefusesSift n states (constraints_in list) r)
-      (λ sifting. consistent_text list sifting log) (λ sifting. consistent_text list sifting other) (length (sorted_names log)) (length (sorted_names other)) (ap length (same_names log other h))
-      (λ sifting. told_same (λ names traces events. report_text (consistent_report names list sifting traces events))) o is
-  stage_same Model states list o is =
+  model_same : (text : Reduction → LogText) (states : ℕ) (list : List Scored) (o : Outcome) → IsModelOutcome text states list log o → IsModelOutcome text states list other o
+  model_same text states list o is =
       reported_same (λ n reduction. IsReduction n states (constraints_in list) reduction) (λ n r. RefusesReduction n states (constraints_in list) r)
-      (λ reduction. model_text list reduction log) (λ reduction. model_text list reduction other) (length (sorted_names log)) (length (sorted_names other)) (ap length (same_names log other h))
-      (λ reduction. told_same (λ names traces events. report_text (model_report names list reduction.decisions reduction.witnesses reduction.example traces events))) o is
+      (λ reduction. text_of_log (text reduction) log) (λ reduction. text_of_log (text reduction) other) (length (sorted_names log)) (length (sorted_names other)) (ap length (same_names log other h))
+      (λ reduction. told_same (text reduction)) o is
+
+  stage_same : (stage : Stage) (out : Out) (states : ℕ) (list : List Scored) (o : Outcome) → IsStageOutcome stage out states list log o → IsStageOutcome stage out states list other o
+  stage_same Scores out states list o is = is ∙ ap (answers status.Done) (told_same (scores_text out list))
+  stage_same Consistent out states list o is =
+      reported_same (λ n sifting. IsSift n states (constraints_in list) sifting) (λ n r. RefusesSift n states (constraints_in list) r)
+      (λ sifting. text_of_log (consistent_text out list sifting) log) (λ sifting. text_of_log (consistent_text out list sifting) other) (length (sorted_names log)) (length (sorted_names other)) (ap length (same_names log other h))
+      (λ sifting. told_same (consistent_text out list sifting)) o is
+  stage_same Model out states list o is = model_same (model_text out list) states list o is
+
+  mined_same : (Is : List Scored → List (List (List ℕ)) → Outcome → Type 0) (s : Settings) (o : Outcome) → ((list : List Scored) → Is list log o → Is list other o) → IsMinedOutcome Is s log o → IsMinedOutcome Is s other o
+  mined_same Is s o same is =
+      subst (λ list. MatchBool (nat_lt standard.candidates (length list)) (o ≡ refuses (refusal.Candidates (length list))) (Is list other o)) (same_candidates_in s)
+      (second_same (nat_lt standard.candidates (length (candidates_in s log))) (o ≡ refuses (refusal.Candidates (length (candidates_in s log))))
+      (Is (candidates_in s log) log o) (Is (candidates_in s log) other o) (same (candidates_in s log)) is)
 
   pub outcome_same : (command : Command) (s : Settings) (o : Outcome) → IsLogOutcome command s log o → IsLogOutcome command s other o
   outcome_same Kb s o is =
       is ∙ ap (λ names. answers status.Done (kb_text names (by_ranks log))) (same_names log other h)
       ∙ ap (answers status.Done) (same_table (by_ranks log) (by_ranks other) (ranks_alike log other h) (sorted_names other))
-  outcome_same Mine s o is =
-      subst (λ list. MatchBool (nat_lt standard.candidates (length list)) (o ≡ refuses (refusal.Candidates (length list))) (IsStageOutcome s.stage s.states list other o)) (same_candidates_in s)
-      (second_same (nat_lt standard.candidates (length (candidates_in s log))) (o ≡ refuses (refusal.Candidates (length (candidates_in s log))))
-      (IsStageOutcome s.stage s.states (candidates_in s log) log o) (IsStageOutcome s.stage s.states (candidates_in s log) other o) (stage_same s.stage s.states (candidates_in s log) o) is)
+  outcome_same Mine s o is = mined_same (IsStageOutcome s.stage s.out s.states) s o (λ list. stage_same s.stage s.out s.states list o) is
+  outcome_same Sample s o is = mined_same (IsModelOutcome (summary_text s.seed) s.states) s o (λ list. model_same (summary_text s.seed) s.states list o) is
+  outcome_same Check s o is = absurd is
+  outcome_same Gen s o is = absurd is

@@ -91,12 +91,12 @@ module _ (xs ys : List (List ℕ)) (h : SumAlike xs ys) where
       cc (alone, later, earlier, following, preceding, repeated_later, repeated_earlier, both)
 
   same_line : (names : List (List ℕ)) (a : ℕ) → activity_line names xs a ≡ activity_line names ys a
-  same_line names a = ap (λ c. columns (activity_numbers c) ++ quoted_at names a ++ 10 ∷ []) (same_unary a)
+  same_line names a = ap (λ c. columns 12 (activity_numbers c) ++ quoted_at names a ++ 10 ∷ []) (same_unary a)
 
   same_pair_lines : (names : List (List ℕ)) (a : ℕ) → pair_lines names xs a ≡ pair_lines names ys a
   same_pair_lines names a =
       flat_map-same (λ b. cond (a == b) [] (pair_line names xs a b)) (λ b. cond (a == b) [] (pair_line names ys a b))
-      (λ b. ap (λ c. cond (a == b) [] (columns (pair_numbers c) ++ quoted_at names a ++ 32 ∷ [] ++ quoted_at names b ++ 10 ∷ [])) (same_pair a b))
+      (λ b. ap (λ c. cond (a == b) [] (columns 12 (pair_numbers c) ++ quoted_at names a ++ 32 ∷ [] ++ quoted_at names b ++ 10 ∷ [])) (same_pair a b))
       (range_with_len 0 (length names))
 
   pub same_table : (names : List (List ℕ)) → kb_text names xs ≡ kb_text names ys

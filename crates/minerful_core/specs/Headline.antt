@@ -18,7 +18,7 @@ use Rattle.reduce_model.specs.declared.decision.Decision.TheVariants.{Kept, Conf
 use Rattle.scoring.specs.Scores.{scored}
 use Rattle.scoring.specs.declared.scored.Scored.{Scored}
 use Rattle.template_core.specs.declared.constraint.Constraint.{Constraint}
-use Rattle.minerful_core.specs.Outcome.{candidates_in, constraints_in, log_of, model_text}
+use Rattle.minerful_core.specs.Outcome.{candidates_in, constraints_in, log_of, model_text, text_of_log}
 
 -- the settings ask for the reduced model of a log, as JSON
 pub record MinesModel (s : Settings) : Type 0 where
@@ -65,4 +65,4 @@ pub record IsHeadline (s : Settings) (log : List (List (List ℕ))) (list : List
 abbrev pub PrintsModel : Settings → List ℕ → SinkState → SinkState → Type 0
 PrintsModel s bytes old new =
     (log : List (List (List ℕ))) × (list : List Scored) × (reduction : Reduction) × (log_of s.format s.columns bytes ≡ Ok log)
-    × (new.held ≡ append_known old.held (model_text list reduction log)) × IsHeadline s log list reduction
+    × (new.held ≡ append_known old.held (text_of_log (model_text Json list reduction) log)) × IsHeadline s log list reduction

@@ -46,6 +46,7 @@ class Definitions:
 
     traces_tried: int
     counted: list = field(default_factory=list)
+    samples: dict = field(default_factory=dict)
 
     def outcome(self, words, read):
         """`read` gives an Input by its name, or None where it can't be opened or not be read at all."""
@@ -129,6 +130,9 @@ class Definitions:
         return DIFFERS if any(row.broken for row in rows) else DONE, texts.check_table(names, constraints, rows)
 
     def sampled(self, given):
-        names, log = ranked(string_log(generated(given["seed"], *SAMPLE.values())))
-        scored, model, _ = self.model_of(given, names, log)
-        return texts.summary(given["seed"], names, log, scored, model)
+        """Each seed once, since it takes seconds."""
+        if given["seed"] not in self.samples:
+            names, log = ranked(string_log(generated(given["seed"], *SAMPLE.values())))
+            scored, model, _ = self.model_of(given, names, log)
+            self.samples[given["seed"]] = texts.summary(given["seed"], names, log, scored, model)
+        return self.samples[given["seed"]]

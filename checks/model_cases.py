@@ -272,11 +272,15 @@ def model_limits():
     for more in [0, 1]:
         spaces = b" " * (16_777_216 - len(A_MODEL) + more)
         yield on_model("limits: bytes of a model", A_MODEL + spaces)
-        yield on_model("limits: bytes of a model", b"[" + A_MODEL + spaces)
+        yield on_model("limits: bytes of a model", b"[" + A_MODEL + spaces[1:])
     for count in [65_536, 65_537]:
         yield on_model("limits: constraints of a model", many(count, good))
         yield on_model("limits: constraints of a model", many(count, "0"))
     yield from names_of_models()
+    # The log of a check is kept, and read by itself.
+    line = b"a" * 1_048_576
+    for log in [line + b"a", b"\n" * 1_048_576, (line + b"\n") * 16, characters(1001), b"\n" * 1_048_575]:
+        yield on_model("limits: logs that are checked", A_MODEL, log)
     for traces, length in [(16_777, 1000), (986_895, 17), (1_048_575, 16)]:
         yield Case("limits: generated events", ["gen", f"--traces={traces}", f"--length={length}", "--letters=26"])
 

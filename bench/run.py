@@ -110,9 +110,11 @@ def rare(path, seed, names, others):
 
 
 EXISTENCE = ["Init", "End", "Participation", "AtMostOne"]
-PAIRS = ["ChainSuccession", "AlternateSuccession", "Succession", "CoExistence", "ChainResponse", "AlternateResponse", "Response"]
-PAIRS += ["ChainPrecedence", "AlternatePrecedence", "Precedence", "RespondedExistence"]
-PAIRS += ["NotCoExistence", "NotSuccession", "NotChainSuccession"]
+PAIRS = [
+    "ChainSuccession", "AlternateSuccession", "Succession", "CoExistence", "ChainResponse", "AlternateResponse",
+    "Response", "ChainPrecedence", "AlternatePrecedence", "Precedence", "RespondedExistence", "NotCoExistence",
+    "NotSuccession", "NotChainSuccession",
+]
 
 
 def rules(path, seed, count):

@@ -5,7 +5,8 @@
 For each run the definitions give its exit status, its standard output and its standard error, and each of the three
 is compared by itself. The definitions stand in checks/defined, once more and in Python: by places of traces, by counts
 over whole logs, and by trying all short traces. Nothing is taken from the program's code. The runs stand in
-checks/cases.py and checks/model_cases.py. At the end it says how many runs tried what, how often each refusal came, and what was not tried.
+checks/cases.py and checks/model_cases.py. At the end it says how many runs tried what, how often each refusal came,
+and what was not tried.
 
 Ends with 0 where all runs are as defined, and with 1 at the first that is not, which it prints. It needs Linux, for
 inputs that are cut or fail, and prlimit, for outputs that fail.
@@ -27,8 +28,8 @@ import model_cases
 from defined.outcome import Definitions, Input, Outcome
 from defined.refusals import STATUSES, Refused
 
-NOT_TRIED = """Not tried: out of memory (status 8); files that fail behind their first byte; numbers of activities, traces and
-events between the small ones and the limits; many activities where constraints are dropped."""
+NOT_TRIED = """Not tried: out of memory (status 8); files that fail behind their first byte; numbers of activities, traces
+and events between the small ones and the limits; many activities where constraints are dropped; checks of large logs."""
 
 NO_TEXT = "words that are no text"
 

@@ -395,16 +395,22 @@ def words_by_hand():
 
 def model_words():
     """Words of `check`: without a model, with both inputs by name or not, both on standard input, one log too many."""
-    lists = [["check"], ["check", "--"], ["check", "--format=string"], ["check", "--format=x"], ["check", "--nosuch", "model.json"]]
-    for places in [["-"], ["-", "-"], ["model.json", "-"], ["-", "log.txt"], ["model.json", "log.txt"], ["model.json", "model.json"]]:
+    lists = [
+        ["check"], ["check", "--"], ["check", "--format=string"], ["check", "--format=x"],
+        ["check", "--nosuch", "model.json"],
+    ]
+    named = [["model.json", "-"], ["-", "log.txt"], ["model.json", "log.txt"], ["model.json", "model.json"]]
+    for places in [["-"], ["-", "-"], *named]:
         lists += [["check", *places], ["check", "--", *places], ["check", *places, "x"], ["check", *places, "--format=xes"]]
-    return lists + [["check", "", ""], ["check", "./-", "-"], ["check", "-", "--", "./-"], ["check", "-", "--order-as=x", "--format=x"]]
+    lists += [["check", "", ""], ["check", "./-", "-"], ["check", "-", "--", "./-"]]
+    return lists + [["check", "-", "--order-as=x", "--format=x"]]
 
 
 def generator_words():
     """Words of `gen` and `sample`: words by their place, more than one fault, and the greatest number of events."""
     lists = [[command, *more] for command in ["gen", "sample"] for more in [["x"], ["-"], ["--"], ["--", "x"], ["--traces"]]]
-    lists += [["gen", "--traces=1048576", "--seed=x"], ["gen", "--letters=0", "--length=0"], ["gen", "--letters=0", "--traces=1048575", "--length=17"]]
+    lists += [["gen", "--traces=1048576", "--seed=x"], ["gen", "--letters=0", "--length=0"]]
+    lists += [["gen", "--letters=0", "--traces=1048575", "--length=17"]]
     for traces, length in [(1_048_575, 17), (16_778, 1000), (986_896, 17), (0, 1000)]:
         lists.append(["gen", f"--traces={traces}", f"--length={length}"])
     return lists

@@ -2,14 +2,14 @@
 
     python3 checks/faults.py [--program PATH]
 
-Each command is run with an input that can't be opened or read, and with outputs that can't be written: a closed pipe, a
-full disk, a closed output. For each run the exit status, standard output and standard error are compared with what
-is promised: a read fault is status 6 with its line and nothing on the output, a write fault status 7 with its line, and where
-standard error can't be written the status is the same and the line is missing. A run with an input that doesn't matter
-to it ends as it does without the fault.
+Each command is run with an input that can't be opened or read, and with outputs that can't be written: a closed pipe,
+a full disk, a closed output. For each run the exit status, standard output and standard error are compared with what is
+promised: a read fault is status 6 with its line and nothing on the output, a write fault status 7 with its line, and
+where standard error can't be written the status is the same and the line is missing. A run with an input that doesn't
+matter to it ends as it does without the fault.
 
-Ends with 'N passed, M failed' alone on a line, and with 1 where some failed. It needs Linux, for /dev/full. A file without
-the right to read is left out where the user may read every file. It takes some seconds.
+Ends with 'N passed, M failed' alone on a line, and with 1 where some failed. It needs Linux, for /dev/full. A file
+without the right to read is left out where the user may read every file. It takes some seconds.
 """
 
 import argparse
@@ -30,9 +30,11 @@ RECORDS = b"case,activity\n1,a\n1,b\n2,a\n"
 MODEL = b'{"constraints":[{"template":"Response","parameters":[["a"],["b"]]}]}'
 
 # Each ends with status 0, but for `check`, whose log breaks the model.
-COMMANDS = [["mine", "log"], ["mine", "--out", "table", "log"], ["mine", "--stage", "scores", "log"], ["kb", "log"], ["check", "model", "log"]]
-COMMANDS += [["mine", "--format", "csv", "records"], ["kb", "--format", "csv", "records"], ["check", "--format=csv", "model", "records"]]
-COMMANDS += [["gen"], ["sample"]]
+COMMANDS = [
+    ["mine", "log"], ["mine", "--out", "table", "log"], ["mine", "--stage", "scores", "log"], ["kb", "log"],
+    ["check", "model", "log"], ["mine", "--format", "csv", "records"], ["kb", "--format", "csv", "records"],
+    ["check", "--format=csv", "model", "records"], ["gen"], ["sample"],
+]
 
 
 @dataclass

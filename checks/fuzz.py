@@ -2,14 +2,15 @@
 
     python3 checks/fuzz.py [--program PATH] [--seed N] [--count N] [--seconds N] [--megabytes N]
 
-What comes out isn't looked up in the definitions: that is what checks/by_definition.py does. Here every run has to end as
-the table of README says. The status is one of the table, and 1 only of `check`. At 0 and 1 standard error is empty. At
-any other status standard output is empty, and standard error has exactly one line, which is that status's (none at 9,
-which comes only of words that are no text). No run ends by a signal, takes more processor seconds than `--seconds`, or more memory
-than `--megabytes`; out of memory (8) doesn't come within these.
+What comes out isn't looked up in the definitions: that is what checks/by_definition.py does. Here every run has to end
+as the table of README says. The status is one of the table, and 1 only of `check`. At 0 and 1 standard error is empty.
+At any other status standard output is empty, and standard error has exactly one line, which is that status's (none at
+9, which comes only of words that are no text). No run ends by a signal, takes more processor seconds than `--seconds`,
+or more memory than `--megabytes`; out of memory (8) doesn't come within these.
 
-The same seed and count give the same runs. Prints each run that fails, with its words and inputs, and at the end how often
-each status came. Ends with 'N passed, M failed' alone on a line, and with 1 where some failed. 2,000 runs take about a minute.
+The same seed and count give the same runs. Prints each run that fails, with its words and inputs, and at the end how
+often each status came. Ends with 'N passed, M failed' alone on a line, and with 1 where some failed. 2,000 runs take
+about a minute.
 """
 
 import argparse
@@ -51,16 +52,25 @@ def example(name):
         return file.read()
 
 
-LOGS = [b"", b"\n", b"ab\nab\na\n", b"a\r\nb\r\n", "é€a\n\U0001f600\n".encode(), example("orders.txt"), b"abcabc\ncba\n" * 3]
-TABLES = [b"case,activity,n\n1,a,1\n2,b,-2\n1,\"b,\"\"c\",3\n", b"\xef\xbb\xbfcase,activity\r\n1,a\r\n", example("tickets.csv")[:2000]]
+LOGS = [
+    b"", b"\n", b"ab\nab\na\n", b"a\r\nb\r\n", "é€a\n\U0001f600\n".encode(), example("orders.txt"),
+    b"abcabc\ncba\n" * 3,
+]
+TABLES = [
+    b"case,activity,n\n1,a,1\n2,b,-2\n1,\"b,\"\"c\",3\n", b"\xef\xbb\xbfcase,activity\r\n1,a\r\n",
+    example("tickets.csv")[:2000],
+]
 MODELS = [
     b'{"constraints":[{"template":"Response","parameters":[["a"],["b"]],"support":[1,1]}],"tasks":["a","b"],"version":1}',
     b'{"constraints":[{"template":"Init","parameters":[["r"]]},{"template":"CoExistence","parameters":[["s"],["p"]]}]}',
     b'{"constraints":[],"x":' + b"[" * 120 + b"]" * 120 + b"}",
     '{"constraints":[{"parameters":[["\\u00e9"]],"template":"AtMostOne","x":-1.5e300}],"events":3}'.encode(),
 ]
-TOKENS = [b"[", b"]", b"{", b"}", b'"', b",", b":", b"\\u", b"\\", b"null", b"1e999", b"-", b"2", b'"a"', b"\n", b"\r", b"\x00", b"\xff", b"\xc3"]
-TOKENS += [b"\xed\xa0\x80", b"\xef\xbb\xbf", b'"constraints"', b'"template"', b'["a"]', b"18446744073709551616", b"case,activity", b'""']
+TOKENS = [
+    b"[", b"]", b"{", b"}", b'"', b",", b":", b"\\u", b"\\", b"null", b"1e999", b"-", b"2", b'"a"', b"\n", b"\r",
+    b"\x00", b"\xff", b"\xc3", b"\xed\xa0\x80", b"\xef\xbb\xbf", b'"constraints"', b'"template"', b'["a"]',
+    b"18446744073709551616", b"case,activity", b'""',
+]
 
 
 def random_bytes(chance):
@@ -119,7 +129,7 @@ def good_words(chance, command, *places):
 
 def random_word(chance):
     text = "".join(chance.choices(list("-=a0.\t é\U0001f600") + ["--"], k=chance.randint(0, 6)))
-    others = [*COMMANDS, *(f"--{name}" for name in VALUES), *(value for values in VALUES.values() for value in values), "log", "model", "-", "--"]
+    others = [*COMMANDS, "log", "model", "-", "--", *(f"--{name}" for name in VALUES), *sum(VALUES.values(), [])]
     name = f"--{chance.choice(list(VALUES))}={text}"
     return chance.choice([text, name, chance.choice(others), chance.choice(others)])
 
@@ -139,8 +149,8 @@ def on_a_log(chance):
 
 
 def on_a_model(chance):
-    log = chance.choice(LOGS + TABLES)
-    return Run(good_words(chance, "check", "model"), changed(chance, log) if chance.random() < 0.5 else log, {"model": some_model(chance)})
+    log = chance.choice([chance.choice(LOGS + TABLES), some_log(chance)])
+    return Run(good_words(chance, "check", "model"), log, {"model": some_model(chance)})
 
 
 def on_words(chance):
@@ -172,8 +182,9 @@ def result_of(program, run, seconds):
         resource.setrlimit(resource.RLIMIT_CORE, (0, 0))
 
     with tempfile.TemporaryDirectory() as folder, tempfile.TemporaryDirectory() as beside:
-        for place, data in [(os.path.join(folder, name), data) for name, data in run.files.items()] + [(f"{beside}/in", run.stdin)]:
-            with open(place, "wb") as file:
+        paths = {os.path.join(folder, name): data for name, data in run.files.items()} | {f"{beside}/in": run.stdin}
+        for path, data in paths.items():
+            with open(path, "wb") as file:
                 file.write(data)
         with open(f"{beside}/in", "rb") as stdin, open(f"{beside}/out", "wb") as out, open(f"{beside}/err", "wb") as err:
             child = subprocess.Popen([program, *run.words], cwd=folder, stdin=stdin, stdout=out, stderr=err, preexec_fn=limit)

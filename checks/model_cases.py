@@ -3,7 +3,8 @@
 import json
 import re
 
-from cases import A_MODEL, BY_NUMBER, REDUCED, STAGES, Case, as_csv, as_lines, characters, hard_name, random_log, random_thresholds
+from cases import A_MODEL, BY_NUMBER, REDUCED, STAGES, Case
+from cases import as_csv, as_lines, characters, hard_name, random_log, random_thresholds
 from defined.generator import generated
 from defined.outcome import Definitions, Input
 from defined.templates import EXISTENCE, TEMPLATES
@@ -28,6 +29,11 @@ def random_item(chance, names):
     return item(template, *chance.sample(names, 1 if template in EXISTENCE else 2))
 
 
+def turned(each):
+    """The same template, with its names in the other order."""
+    return each | {"parameters": each["parameters"][::-1]}
+
+
 def shuffled(chance, value):
     members = list(value.items())
     chance.shuffle(members)
@@ -35,14 +41,17 @@ def shuffled(chance, value):
 
 
 # Members that a model is read past.
-PASSED = [("support", 0.98), ("confidence", [1, 2]), ("witness", []), ("by", None), ("Template", "Init"), ("", {"template": 7})]
+PASSED = [
+    ("support", 0.98), ("confidence", [1, 2]), ("witness", []), ("by", None), ("Template", "Init"),
+    ("", {"template": 7}),
+]
 
 
 def random_model(chance, names):
     """A few constraints, some twice, some in both orders; with `tasks` or not; with members that are read past."""
     items = [random_item(chance, names) for _ in range(chance.randint(0, 6))]
     items += chance.choices(items, k=chance.randint(0, 2)) if items else []
-    items += [item(each["template"], *[p[0] for p in reversed(each["parameters"])]) for each in items if chance.random() < 0.2]
+    items += [turned(each) for each in items if chance.random() < 0.2]
     value = {"constraints": [shuffled(chance, each | dict(chance.sample(PASSED, chance.randint(0, 2)))) for each in items]}
     if chance.random() < 0.5:
         value["tasks"] = chance.choices([*names, "unused"], k=chance.randint(0, 5))
@@ -98,31 +107,53 @@ def passed(text):
     return '{"constraints":[],"x":' + text + "}"
 
 
-NUMBERS = ["0", "-0", "-1", "1.5", "1E5", "1e-400", "0e0", "-0.0e-0", "01", "-01", "+1", ".5", "1.", "1.e1", "1e", "1e+", "-"]
-NUMBERS += ["0x10", "NaN", "Infinity", "-Infinity", "1_0", "٣", "1e400", "-1e400", "1" + "0" * 308, "1" + "0" * 309, "9" * 400]
-NUMBERS += ["1.7976931348623158e308", "1.7976931348623159e308", "18446744073709551616", "-9223372036854775809"]
-TEXTS = [r'"\u0000"', r'"\ud83d\ude00"', r'"\ud800"', r'"\udc00"', r'"\ud83dx"', r'"\ud83d\u0041"', r'"\ud83d\ud83d"', r'"\uDE00\uD83D"']
-TEXTS += [r'"\/\"\\\b\f\n\r\t"', r'"\x"', r'"\u12g4"', r'"\u123"', r'"\U0041"', r'"\"', '"', '"\t"', '"\x1f"', '"\x7f\x85\u2028"', "'a'", '"a" "b"']
-OTHERS = ["true", "True", "nul", "null", "nullx", "[]", "[ ]", "[1,]", "[,1]", "[1 2]", "{}", '{"a":1,}', "{a:1}", '{"a" 1}', '{"a":}', "{,}"]
-OTHERS += ["/**/1", "1//", "[1]]", "", "[", "{", '{"a"', '{"a":', "[[]", "{1:2}", '{"a":1 "b":2}', '{"":{"":{"":[]}}}']
-AROUND = [" {}", "{} ", "\t\r\n{}\n\r\t ", "\x0b{}", "{}\x0c", "\u00a0{}", "\ufeff{}", "{}\x00", "{}{}", "{},", "", " ", "{", "}", "{}]"]
+NUMBERS = [
+    "0", "-0", "-1", "1.5", "1E5", "1e-400", "0e0", "-0.0e-0", "01", "-01", "+1", ".5", "1.", "1.e1", "1e", "1e+", "-",
+    "0x10", "NaN", "Infinity", "-Infinity", "1_0", "٣", "1e400", "-1e400", "1" + "0" * 308, "1" + "0" * 309, "9" * 400,
+    "1.7976931348623158e308", "1.7976931348623159e308", "18446744073709551616", "-9223372036854775809",
+]
+TEXTS = [
+    r'"\u0000"', r'"\ud83d\ude00"', r'"\ud800"', r'"\udc00"', r'"\ud83dx"', r'"\ud83d\u0041"', r'"\ud83d\ud83d"',
+    r'"\uDE00\uD83D"', r'"\/\"\\\b\f\n\r\t"', r'"\x"', r'"\u12g4"', r'"\u123"', r'"\U0041"', r'"\"', '"', '"\t"',
+    '"\x1f"', '"\x7f\x85\u2028"', "'a'", '"a" "b"',
+]
+OTHERS = [
+    "true", "True", "nul", "null", "nullx", "[]", "[ ]", "[1,]", "[,1]", "[1 2]", "{}", '{"a":1,}', "{a:1}", '{"a" 1}',
+    '{"a":}', "{,}", "/**/1", "1//", "[1]]", "", "[", "{", '{"a"', '{"a":', "[[]", "{1:2}", '{"a":1 "b":2}',
+    '{"":{"":{"":[]}}}',
+]
+AROUND = [
+    " {}", "{} ", "\t\r\n{}\n\r\t ", "\x0b{}", "{}\x0c", "\u00a0{}", "\ufeff{}", "{}\x00", "{}{}", "{},", "", " ", "{",
+    "}", "{}]",
+]
 
 
 def json_texts():
     texts = [passed(text) for text in NUMBERS + TEXTS + OTHERS]
     texts += [text.replace("{}", '{"constraints":[]}') for text in AROUND]
     for levels in [125, 126, 127, 128, 200, 5000]:
-        texts += [passed("[" * levels + "]" * levels), passed('{"a":' * levels + "0" + "}" * levels), "[" * levels + "]" * levels]
+        lists, objects = "[" * levels + "]" * levels, '{"a":' * levels + "0" + "}" * levels
+        texts += [passed(lists), passed(objects), lists]
     data = [text.encode() for text in texts]
-    data += [passed('"~"').encode().replace(b"~", bad) for bad in [b"\xff", b"\xc3", b"\xed\xa0\x80", b"\xc0\x80", b"\xf4\x90\x80\x80"]]
+    no_texts = [b"\xff", b"\xc3", b"\xed\xa0\x80", b"\xc0\x80", b"\xf4\x90\x80\x80"]
+    data += [passed('"~"').encode().replace(b"~", bad) for bad in no_texts]
     return [on_model("texts that are JSON or not", model) for model in data]
 
 
-SHAPES = ["[]", "null", "7", '"constraints"', "{}", '{"constraints":{}}', '{"constraints":null}', '{"Constraints":[]}', '{"constraints ":[]}']
-SHAPES += ['{"constraints":7,"constraints":[]}', '{"constraints":[],"constraints":7}', r'{"constraint\u0073":[]}', r'{"constraints\u0000":[]}']
-VERSIONS = ["1", "2", "0", "-1", "1.0", "2.0", "-0", "1e0", "18446744073709551615", "18446744073709551616", "-9223372036854775808"]
-VERSIONS += ["-9223372036854775809", '"2"', "null", "true", "[2]", '{"a":2}', '1,"version":2', '2,"version":1', '2,"version":"1"']
-TASKS = ["null", '"a"', "[1]", '[["a"]]', "[]", '["a","a",""]', "{}", '["a",null]', '7,"tasks":[]', '[],"tasks":7', "[true]"]
+SHAPES = [
+    "[]", "null", "7", '"constraints"', "{}", '{"constraints":{}}', '{"constraints":null}', '{"Constraints":[]}',
+    '{"constraints ":[]}', '{"constraints":7,"constraints":[]}', '{"constraints":[],"constraints":7}',
+    r'{"constraint\u0073":[]}', r'{"constraints\u0000":[]}',
+]
+VERSIONS = [
+    "1", "2", "0", "-1", "1.0", "2.0", "-0", "1e0", "18446744073709551615", "18446744073709551616",
+    "-9223372036854775808", "-9223372036854775809", '"2"', "null", "true", "[2]", '{"a":2}', '1,"version":2',
+    '2,"version":1', '2,"version":"1"',
+]
+TASKS = [
+    "null", '"a"', "[1]", '[["a"]]', "[]", '["a","a",""]', "{}", '["a",null]', '7,"tasks":[]', '[],"tasks":7',
+    "[true]",
+]
 
 
 def shapes():
@@ -134,20 +165,30 @@ def shapes():
 
 
 # Each is an item of `constraints`: the first ones are as they should be.
-ITEMS = ['{"template":"Init","parameters":[["a"]]}', '{"template":"Response","parameters":[["b"],["a"]]}']
-ITEMS += [r'{"template":"Ini\u0074","parameters":[["\u0061"]]}', '{"parameters":[[7]],"parameters":[["a"]],"template":"End","x":[[]]}']
-ITEMS += ["null", "[]", '"Init"', "7", "{}", '{"template":"Init"}', '{"parameters":[["a"]]}', '{"template":7,"parameters":[["a"]]}']
-ITEMS += ['{"template":"Init","parameters":%s}' % text for text in ["null", '"a"', "{}", '["a"]', '[["a"],7]', "[[7]]", '[["a",7]]', '[[["a"]]]']]
+ITEMS = [
+    '{"template":"Init","parameters":[["a"]]}', '{"template":"Response","parameters":[["b"],["a"]]}',
+    r'{"template":"Ini\u0074","parameters":[["\u0061"]]}',
+    '{"parameters":[[7]],"parameters":[["a"]],"template":"End","x":[[]]}', "null", "[]", '"Init"', "7", "{}",
+    '{"template":"Init"}', '{"parameters":[["a"]]}', '{"template":7,"parameters":[["a"]]}',
+]
+ITEMS += [
+    '{"template":"Init","parameters":%s}' % text
+    for text in ["null", '"a"', "{}", '["a"]', '[["a"],7]', "[[7]]", '[["a",7]]', '[[["a"]]]']
+]
 ITEMS += ['{"template":"%s","parameters":[["a"]]}' % text for text in ["init", "Init ", "", "AtLeast2", "Respond", "Init\\u0000"]]
 ITEMS += ['{"template":"init","parameters":%s}' % text for text in ["[]", "[[7]]", "[[]]", "7"]]
 ITEMS += ['{"template":"Init","parameters":%s}' % text for text in ["[]", "[[]]", '[["a"],["b"]]', '[["a","a"]]', '[["a"],[]]']]
-PARAMETERS = ['[["a"]]', '[["a","b"]]', '[["a"],["b","c"]]', '[["a"],["b"],["c"]]', '[["a","a"],["a"]]', '[["a"],["a"]]', '[[""],[""]]', "[[],[]]"]
+PARAMETERS = [
+    '[["a"]]', '[["a","b"]]', '[["a"],["b","c"]]', '[["a"],["b"],["c"]]', '[["a","a"],["a"]]', '[["a"],["a"]]',
+    '[[""],[""]]', "[[],[]]",
+]
 ITEMS += ['{"template":"%s","parameters":%s}' % (name, text) for name in ["Response", "CoExistence"] for text in PARAMETERS]
 ITEMS += ['{"template":"Response","parameters":[["é"],["e\u0301"]]}', '{"template":"Response","parameters":[["a"],["A"]]}']
 
 
 def items():
-    return [on_model("constraints in models", constraints(*before, text).encode()) for text in ITEMS for before in [[], ITEMS[:2]]]
+    texts = [constraints(*before, text) for text in ITEMS for before in [[], ITEMS[:2]]]
+    return [on_model("constraints in models", text.encode()) for text in texts]
 
 
 def random_items(chance):
@@ -160,7 +201,9 @@ def random_items(chance):
 
 
 TOKEN = re.compile(rb'"[^"]*"|[0-9]+')
-TOKENS = [b"7", b'"a"', b'"Response"', b"null", b"[]", b"{}", b'"constraints"', b'"template"', b'"parameters"', b'["a"]']
+TOKENS = [
+    b"7", b'"a"', b'"Response"', b"null", b"[]", b"{}", b'"constraints"', b'"template"', b'"parameters"', b'["a"]',
+]
 
 
 def token_changed(chance, data):
@@ -209,11 +252,15 @@ def models_cut(chance):
 
 def short_outputs(chance):
     log = as_lines(random_log(chance))
-    lists = [["gen"], ["sample"], CHECK, ["mine", "--out", "table"], ["check"], ["gen", "--letters=0"], ["check", "log.txt"]]
+    lists = [
+        ["gen"], ["sample"], CHECK, ["mine", "--out", "table"], ["check"], ["gen", "--letters=0"],
+        ["check", "log.txt"],
+    ]
+    inputs = {"stdin": log, "files": {MODEL: A_MODEL, "log.txt": b"{"}}
     for room in [0, 1, chance.randint(2, 60)]:
         for words in lists:
             for short in ["out", "err"]:
-                yield Case("outputs that fail, of further commands", words, log, {MODEL: A_MODEL, "log.txt": b"{"}, short=short, room=room)
+                yield Case("outputs that fail, of further commands", words, **inputs, short=short, room=room)
 
 
 # Tables.
@@ -242,7 +289,8 @@ def tables_by_hand():
 
 
 def generated_logs(chance):
-    numbers = {"seed": chance.randrange(2**32), "traces": chance.randint(0, 30), "length": chance.randint(1, 6), "letters": chance.randint(1, 3)}
+    numbers = {"seed": chance.randrange(2**32), "traces": chance.randint(0, 30)}
+    numbers |= {"length": chance.randint(1, 6), "letters": chance.randint(1, 3)}
     yield Case("generated logs", ["gen", *(f"--{name}={number}" for name, number in numbers.items())])
     text = generated(*numbers.values())
     stage, out = chance.choice(STAGES), chance.choice(["json", "table"])
@@ -253,8 +301,8 @@ def generated_at_edges():
     """Seeds about the modulus, where two give one log, and each number at both ends of its range."""
     for seed in [0, 1, 2_147_483_645, 2_147_483_646, 2_147_483_647, 4_294_967_292, 4_294_967_293, 4_294_967_295]:
         yield Case("generated logs at the edges", ["gen", "--seed", str(seed)])
-    for words in [["--traces=0"], ["--traces=1"], ["--length=1"], ["--length=1000"], ["--letters=1"], ["--letters=2"], ["--letters=26"]]:
-        yield Case("generated logs at the edges", ["gen", *words])
+    for word in ["--traces=0", "--traces=1", "--length=1", "--length=1000", "--letters=1", "--letters=2", "--letters=26"]:
+        yield Case("generated logs at the edges", ["gen", word])
     for seed in [0, 7]:
         yield Case("samples", ["sample", "--seed", str(seed)])
     yield Case("samples", ["sample"], b"\xff")
@@ -305,7 +353,10 @@ def names_of_models():
 
 # All.
 
-EACH_SEED = [random_checks, each_template, hard_names_in_models, reports_checked, random_items, mutated_models, tables, generated_logs]
+EACH_SEED = [
+    random_checks, each_template, hard_names_in_models, reports_checked, random_items, mutated_models, tables,
+    generated_logs,
+]
 SOMETIMES = [failing_models, models_cut, short_outputs]
 
 

@@ -88,7 +88,7 @@ class Checked:
 
 
 def checked(constraint, log):
-    places = [(number, place, fulfilled) for number, trace in enumerate(log, 1) for place, fulfilled in activated(constraint, trace)]
+    places = [(number, *place) for number, trace in enumerate(log, 1) for place in activated(constraint, trace)]
     broken = [(number, place) for number, place, fulfilled in places if not fulfilled]
     kept = len(log) - len({number for number, _ in broken})
     return Checked(len(places), len(places) - len(broken), kept, min(broken, default=None))

@@ -104,7 +104,8 @@ class Definitions:
             listed, told = [texts.Listed(*each) for each in scored], {}
         else:
             listed = [texts.Listed(*each) for each in scored if each[0] not in model.why]
-            told = {"dropped": [each for each in scored if each[0] in model.why], "example": searches.least_trace(model.kept)}
+            dropped = [each for each in scored if each[0] in model.why]
+            told = {"dropped": dropped, "example": searches.least_trace(model.kept)}
         if given["stage"] == "model":
             for each in listed:
                 each.witness = searches.least_trace(without(model.kept, each.constraint), each.constraint)
@@ -121,7 +122,8 @@ class Definitions:
             return scored, None, None
         searches = Searches(len(names), self.traces_tried)
         self.counted.append(searches)
-        return scored, reduced([constraint for constraint, _ in scored], given["stage"], searches, given["max-states"]), searches
+        constraints = [constraint for constraint, _ in scored]
+        return scored, reduced(constraints, given["stage"], searches, given["max-states"]), searches
 
     def checked(self, given, read):
         """Differs where some trace breaks some constraint."""

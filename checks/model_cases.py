@@ -324,6 +324,7 @@ def model_limits():
     for count in [65_536, 65_537]:
         yield on_model("limits: constraints of a model", many(count, good))
         yield on_model("limits: constraints of a model", many(count, "0"))
+    yield on_model("limits: constraints of a model", many(65_537, "0").replace(b"{", b'{"version":2,', 1))
     yield from names_of_models()
     # The log of a check is kept, and read by itself.
     line = b"a" * 1_048_576

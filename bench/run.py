@@ -15,6 +15,7 @@ It needs /usr/bin/time: the peak of a child is at least that of the process that
 import argparse
 import datetime
 import hashlib
+import json
 import os
 import platform
 import random
@@ -108,6 +109,27 @@ def rare(path, seed, names, others):
             file.write(steps + "\n" + steps[:cut] + chr(0x4E00 + place) + steps[cut:] + "\n")
 
 
+EXISTENCE = ["Init", "End", "Participation", "AtMostOne"]
+PAIRS = [
+    "ChainSuccession", "AlternateSuccession", "Succession", "CoExistence", "ChainResponse", "AlternateResponse",
+    "Response", "ChainPrecedence", "AlternatePrecedence", "Precedence", "RespondedExistence", "NotCoExistence",
+    "NotSuccession", "NotChainSuccession",
+]
+
+
+def rules(path, seed, count):
+    """A model of so many different constraints over the letters, of all templates about as often."""
+    source = random.Random(seed)
+    found = {}
+    while len(found) < count:
+        template = source.choice(EXISTENCE + PAIRS)
+        names = source.sample(LETTERS.decode(), 1 if template in EXISTENCE else 2)
+        found[template, *names] = {"template": template, "parameters": [[name] for name in names]}
+    with open(path, "w", encoding="utf-8") as file:
+        json.dump({"constraints": list(found.values())}, file)
+
+
+# The files by their names: who makes each, its seed, and its numbers.
 LOGS = {
     "1m-39.txt": (letters, 3, 1_000_000, 1, 39),
     "16m-39.txt": (letters, 4, 16_000_000, 1, 39),
@@ -130,6 +152,10 @@ LOGS = {
     "process-15.txt": (process, 11, 15, 2_000),
     "any-26.txt": (letters, 13, 3_250, 1, 12, 26),
     "rare-12-100.txt": (rare, 14, 12, 100),
+    "rare-12-400.txt": (rare, 14, 12, 400),
+    "of-20-1m.txt": (letters, 16, 1_000_000, 20, 20),
+    "of-1000-1m.txt": (letters, 17, 1_000_000, 1_000, 1_000),
+    "rules-561.json": (rules, 15, 561),
     "line-15.txt": (one_line, 0, 15, 1),
     "line-16.txt": (one_line, 0, 16, 1),
 }
@@ -155,7 +181,7 @@ def thresholds(support, confidence, interest):
     return ["--support", support, "--confidence", confidence, "--interest", interest]
 
 
-DEFAULTS = thresholds("0.9", "0.25", "0.125")
+DEFAULTS = thresholds("0.95", "0.25", "0.125")
 LOW = thresholds("0.5", "0", "0")
 ALWAYS = thresholds("1", "0", "0")
 
@@ -167,7 +193,7 @@ def model_rows():
             for limits in [DEFAULTS, LOW]:
                 yield f"process-{count}.txt", words + limits
         yield "any-26.txt", words + ALWAYS
-        for name in ["rare-12-100.txt", "line-15.txt", "line-16.txt"]:
+        for name in ["rare-12-100.txt", "rare-12-400.txt", "line-15.txt", "line-16.txt"]:
             yield name, words + DEFAULTS
 
 
@@ -188,6 +214,7 @@ TABLES = {
         ("cases-1m.csv", ["kb", *CSV]),
     ],
     "models": list(model_rows()),
+    "checks": [(f"of-{length}-1m.txt", ["check", "rules-561.json"]) for length in [20, 1000]],
 }
 
 TITLES = {
@@ -196,6 +223,7 @@ TITLES = {
     "activities": "By the number of activities",
     "csv": "CSV logs",
     "models": "Models",
+    "checks": "Checks",
 }
 
 
@@ -270,28 +298,34 @@ def compared(results):
     return "yes" if all(result == known[0] for result in known) else "NO"
 
 
+def in_folder(words, folder):
+    """The words with the path of each file that is made here."""
+    return [os.path.join(folder, word) if word in LOGS else word for word in words]
+
+
 def measured_row(programs, name, words, given):
-    path = os.path.join(given.folder, name)
-    results = [printed([program, *words, path]) for program in programs]
+    with_paths = in_folder([*words, name], given.folder)
+    results = [printed([program, *with_paths]) for program in programs]
     cells = []
     for program, result in zip(programs, results):
         if result.status in (USAGE, 124):
             cells += ["-", "-"]
         else:
-            seconds, peak = best([program, *words, path], given.folder, given.repeat)
+            seconds, peak = best([program, *with_paths], given.folder, given.repeat)
             cells += [f"{seconds:.3f}", f"{peak:.1f}"]
     same = [compared(results)] if len(programs) > 1 else []
     return row(name, " ".join(words), *cells, outcome(results[-1]), *same), "NO" not in same
 
 
-def known_rows(programs, rows):
-    """The rows whose stage some program knows."""
-    stages = {}
+def known_rows(programs, rows, folder):
+    """The rows whose command or stage some program knows."""
+    known = {}
     for name, words in rows:
-        stage = tuple(words[:3])
-        if stage not in stages:
-            stages[stage] = any(printed([program, *words, os.devnull]).status != USAGE for program in programs)
-        if stages[stage]:
+        asked = tuple(words[:3])
+        if asked not in known:
+            on_nothing = in_folder([*words, os.devnull], folder)
+            known[asked] = any(printed([program, *on_nothing]).status != USAGE for program in programs)
+        if known[asked]:
             yield name, words
 
 
@@ -300,7 +334,7 @@ def tables(programs, given):
     for table in given.only:
         print(f"\n{TITLES[table]}", flush=True)
         lines += ["", f"## {TITLES[table]}", "", *head(programs)]
-        for name, words in known_rows(programs, TABLES[table]):
+        for name, words in known_rows(programs, TABLES[table], given.folder):
             text, same = measured_row(programs, name, words, given)
             lines.append(text)
             all_same = all_same and same
@@ -329,8 +363,10 @@ NOTES = """- Seconds are processor seconds of the program (user), the least of t
 - line-N.txt: one trace of N different characters; line-N-M.txt: the same characters M times over in one trace.
 - records-1m.csv: 1,000,000 records of 83,330 mixed cases; cases-1m.csv: a case for each record.
 - process-N.txt: 2,000 traces of a process of N activities with a loop, a choice and two parallel branches, some of which have
-  lost an event. any-26.txt: 26 letters without any order, in traces up to 12. rare-12-100.txt: 12 steps in a row, and 100
-  further activities that each come once."""
+  lost an event. any-26.txt: 26 letters without any order, in traces up to 12. rare-12-N.txt: 12 steps in a row, and N
+  further activities that each come once.
+- of-N-1m.txt: 1,000,000 events in 26 letters, in traces of N events. rules-561.json: 561 constraints over these letters, of all
+  templates about as often."""
 
 
 def page(lines, given, began, load_before):

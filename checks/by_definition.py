@@ -1,11 +1,12 @@
 """Compares what the built program does with the definitions, computed the long way.
 
-    python3 checks/by_definition.py [--program PATH] [--logs N] [--seed N] [--no-model] [--no-limits] [--traces N]
+    python3 checks/by_definition.py [--program PATH] [--logs N] [--seed N] [--no-limits] [--traces N]
 
 For each run the definitions give its exit status, its standard output and its standard error, and each of the three
 is compared by itself. The definitions stand in checks/defined, once more and in Python: by places of traces, by counts
 over whole logs, and by trying all short traces. Nothing is taken from the program's code. The runs stand in
-checks/cases.py. At the end it says how many runs tried what, how often each refusal came, and what was not tried.
+checks/cases.py and checks/model_cases.py. At the end it says how many runs tried what, how often each refusal came,
+and what was not tried.
 
 Ends with 0 where all runs are as defined, and with 1 at the first that is not, which it prints. It needs Linux, for
 inputs that are cut or fail, and prlimit, for outputs that fail.
@@ -23,11 +24,12 @@ import threading
 from collections import Counter
 
 import cases
+import model_cases
 from defined.outcome import Definitions, Input, Outcome
 from defined.refusals import STATUSES, Refused
 
-NOT_TRIED = """Not tried: out of memory (status 8); files that fail behind their first byte; numbers of activities, traces and
-events between the small ones and the limits; many activities where constraints are dropped."""
+NOT_TRIED = """Not tried: out of memory (status 8); files that fail behind their first byte; numbers of activities, traces
+and events between the small ones and the limits; many activities where constraints are dropped; checks of large logs."""
 
 NO_TEXT = "words that are no text"
 
@@ -167,13 +169,14 @@ def show(case, found, outcome, parts):
         print(f"--- {part} printed:\n{shown(found[part])}\n--- {part} wanted:\n{shown(getattr(outcome, part))}")
 
 
-def all_cases(given, stages):
+def all_cases(given):
     chance = random.Random(given.seed)
-    yield from cases.by_hand(stages)
-    for number in range(given.logs):
-        yield from cases.at_random(chance, stages, number)
-    if given.limits:
-        yield from cases.limits(chance, stages)
+    for module in [cases, model_cases]:
+        yield from module.by_hand()
+        for number in range(given.logs):
+            yield from module.at_random(chance, number)
+        if given.limits:
+            yield from module.limits(chance)
 
 
 def print_counts(title, counts):
@@ -182,14 +185,14 @@ def print_counts(title, counts):
         print(f"{count:>8}  {name}")
 
 
-def refusal_names(definitions):
-    phases = range(1, 5 if "model" in definitions.stages else 2)
-    return [name for name in STATUSES if name != "States"] + [f"States, phase {phase}" for phase in phases] + [NO_TEXT]
+def refusal_names():
+    states = [f"States, phase {phase}" for phase in range(1, 5)]
+    return [name for name in STATUSES if name != "States"] + states + [NO_TEXT]
 
 
 def summary(definitions, tried, refused):
     print_counts("Runs that were as defined:", tried)
-    print_counts("Refusals among them:", {name: refused[name] for name in refusal_names(definitions)})
+    print_counts("Refusals among them:", {name: refused[name] for name in refusal_names()})
     found, none, undecided = (sum(getattr(s, part) for s in definitions.counted) for part in ["found", "none", "undecided"])
     print("Searches for the least trace that keeps a list, and breaks one constraint where one is given:")
     print(f"{found:>8}  found by trying all traces up to a length, and by an automaton the same")
@@ -204,7 +207,6 @@ def options():
     words.add_argument("--program", default="crates/minerful/out/minerful")
     words.add_argument("--logs", type=int, default=100, help="so many rounds of random cases")
     words.add_argument("--seed", type=int, default=1)
-    words.add_argument("--no-model", dest="model", action="store_false", help="an older program: stage `scores` is the default, and there is no `model`")
     words.add_argument("--no-limits", dest="limits", action="store_false", help="leave out the large inputs")
     words.add_argument("--traces", type=int, default=10_000, help="at most so many traces are tried for one search")
     return words.parse_args()
@@ -212,11 +214,10 @@ def options():
 
 def main():
     given = options()
-    stages = ["scores", "consistent"] + ["model"] * given.model
-    definitions = Definitions(stages, "model" if given.model else "scores", given.traces)
+    definitions = Definitions(given.traces)
     program = os.path.abspath(given.program)
     tried, refused = Counter(), Counter()
-    for case in all_cases(given, stages):
+    for case in all_cases(given):
         outcome = wanted(definitions, case)
         found = run(program, case)
         parts = differences(found, outcome, case)

@@ -3,10 +3,10 @@
     python3 checks/documents.py
 
 README's table of refusals is tried against crates/decl_base: each row's status and line is that of a refusal of
-specs/Refusal.antt, each refusal of a built command has its row, and the texts that src/refusal.rt derives are those
-lines. README's table of the clauses of `run` and its table of crates name clauses that are there. Of docs/DEFINITIONS.md
-each module that is pointed to is there, with the names beside it, and each clause stands at its function. Prints what
-differs, and ends with 1 where something does.
+specs/Refusal.antt, each refusal has its row, and the texts that src/refusal.rt derives are those lines. README's table
+of options has the numbers and names of crates/minerful_words/specs/Table.antt. README's table of the clauses of `run`
+and its table of crates name clauses that are there. Of docs/DEFINITIONS.md each module that is pointed to is there, with
+the names beside it, and each clause stands at its function. Prints what differs, and ends with 1 where something does.
 """
 
 import glob
@@ -16,13 +16,12 @@ import sys
 
 ROOT = os.path.join(os.path.dirname(os.path.abspath(__file__)), "..")
 
-# Refusals of commands that aren't built yet have no row in README.
-NOT_BUILT = ["BadModel"]
-
 STATUS = re.compile(r"^status_of \(?refusal\.(\w+)[^)=]*\)? = status\.(\w+)", re.MULTILINE)
 LINE = re.compile(r"^line_of \(?refusal\.(\w+)[^)=]*\)? =\s+(.*)$", re.MULTILINE)
 CODE = re.compile(r"^code_of (\w+) = (\d+)", re.MULTILINE)
 DERIVED = re.compile(r'#\[error\("([^"]*)"\)\]\s+(\w+)')
+OPTION = re.compile(r'option (\d+) \(codes "([\w-]+)"\)')
+OPTION_ROW = re.compile(r"^\| (\d+) \| `--([\w-]+)` \|", re.MULTILINE)
 ROW = re.compile(r"^\| (\d) \| (?:`(minerful: [^`]*)`)? ?\|", re.MULTILINE)
 
 
@@ -46,25 +45,35 @@ def line_in_specs(parts):
 
 
 def refusals():
-    """For each refusal its exit status, the name of that status, and its line."""
+    """For each refusal its exit status and its line."""
     text = text_of("crates/decl_base/specs/Refusal.antt")
     codes = dict(CODE.findall(text_of("crates/decl_base/specs/Status.antt")))
     lines = {name: plain(line_in_specs(parts)) for name, parts in LINE.findall(text)}
-    return {name: (int(codes[status]), status, lines[name]) for name, status in STATUS.findall(text)}
+    return {name: (int(codes[status]), lines[name]) for name, status in STATUS.findall(text)}
 
 
 def refusal_faults():
     told = refusals()
     rows = [(int(status), plain(line)) for status, line in ROW.findall(text_of("README.md")) if line]
-    known = {(code, line): status for code, status, line in told.values()}
+    known = list(dict.fromkeys(told.values()))
     yield from (f"README has a row that is no refusal's: {row}" for row in rows if row not in known)
-    yield from (f"README has no row of {row}" for row, status in known.items() if row not in rows and status not in NOT_BUILT)
+    yield from (f"README has no row of {row}" for row in known if row not in rows)
     yield from (f"README has two rows of {row}" for row in set(rows) if rows.count(row) > 1)
     derived = {name: plain(line) for line, name in DERIVED.findall(text_of("crates/decl_base/src/refusal.rt"))}
-    for name, (_, _, line) in told.items():
+    for name, (_, line) in told.items():
         if derived.get(name) != line:
             yield f"refusal.rt derives another line of {name}: {derived.get(name)}, not {line}"
     yield from (f"refusal.rt derives a line of {name}, which is no refusal" for name in derived if name not in told)
+
+
+# README's table of options.
+
+
+def option_faults():
+    told = OPTION.findall(text_of("crates/minerful_words/specs/Table.antt"))
+    rows = OPTION_ROW.findall(text_of("README.md"))
+    yield from (f"README has no row of option {row}" for row in told if row not in rows)
+    yield from (f"README has a row of option {row}, which isn't there" for row in rows if row not in told)
 
 
 # The modules and clauses of docs/DEFINITIONS.md.
@@ -144,7 +153,7 @@ def definition_faults():
 
 
 def main():
-    faults = [*refusal_faults(), *readme_clause_faults(), *definition_faults()]
+    faults = [*refusal_faults(), *option_faults(), *readme_clause_faults(), *definition_faults()]
     print("\n".join(faults) or f"{len(refusals())} refusals, and all clauses and modules that are named, are as in the code")
     return int(bool(faults))
 

@@ -3,13 +3,16 @@
 from dataclasses import dataclass, field
 
 from defined import texts
+from defined.generator import SAMPLE, generated
 from defined.logs import csv_log, string_log
+from defined.models import check, model_of
 from defined.reduction import Searches, reduced, without
 from defined.refusals import Refused
 from defined.scores import candidates
-from defined.words import Grammar, settings
+from defined.words import settings
 
 CANDIDATES = 65_536
+DONE, DIFFERS = 0, 1
 
 
 @dataclass
@@ -30,35 +33,49 @@ class Outcome:
     refusal: str = ""
 
 
+def ranked(named):
+    """The names in the order of their bytes, and the traces with each name replaced by its place in this order."""
+    names = sorted({name for trace in named for name in trace}, key=lambda name: name.encode())
+    rank = {name: place for place, name in enumerate(names)}
+    return names, [tuple(rank[name] for name in trace) for trace in named]
+
+
 @dataclass
 class Definitions:
-    """The definitions, for a program with these stages. All searches of a run are counted."""
+    """The definitions. All searches of a run are counted."""
 
-    stages: list
-    default_stage: str
     traces_tried: int
     counted: list = field(default_factory=list)
+    samples: dict = field(default_factory=dict)
 
     def outcome(self, words, read):
         """`read` gives an Input by its name, or None where it can't be opened or not be read at all."""
         try:
-            return Outcome(0, self.text(settings(words, Grammar(self.stages, self.default_stage)), read), b"")
+            status, text = self.answer(settings(words), read)
+            return Outcome(status, text, b"")
         except Refused as refused:
             return Outcome(refused.status, b"", refused.line, refused.told)
 
-    def text(self, given, read):
+    def answer(self, given, read):
+        """The status and the text."""
+        match given["command"]:
+            case "kb":
+                return DONE, texts.kb_table(*ranked(self.log(given, read)))
+            case "mine":
+                return DONE, self.mined(given, *ranked(self.log(given, read)))
+            case "check":
+                return self.checked(given, read)
+            case "gen":
+                return DONE, generated(*(given[name] for name in ["seed", "traces", "length", "letters"]))
+            case "sample":
+                return DONE, self.sampled(given)
+
+    # Inputs.
+
+    def log(self, given, read):
         found = read(given["log"])
         if found is None:
             raise Refused("ReadFault")
-        named = self.log(given, found)
-        names = sorted({name for trace in named for name in trace}, key=lambda name: name.encode())
-        rank = {name: place for place, name in enumerate(names)}
-        log = [tuple(rank[name] for name in trace) for trace in named]
-        if given["command"] == "kb":
-            return texts.kb_table(names, log)
-        return self.report(given, names, log)
-
-    def log(self, given, found):
         if given["format"] == "string":
             return self.string_log(found)
         if found.fails:
@@ -73,17 +90,51 @@ class Definitions:
         string_log(found.data[: found.data.rfind(b"\n") + 1])
         raise Refused("ReadFault")
 
-    def report(self, given, names, log):
+    def model(self, given, read):
+        found = read(given["model"])
+        if found is None or found.fails:
+            raise Refused("ReadFault")
+        return model_of(found.data)
+
+    # Commands.
+
+    def mined(self, given, names, log):
+        scored, model, searches = self.model_of(given, names, log)
+        if model is None:
+            listed, told = [texts.Listed(*each) for each in scored], {}
+        else:
+            listed = [texts.Listed(*each) for each in scored if each[0] not in model.why]
+            dropped = [each for each in scored if each[0] in model.why]
+            told = {"dropped": dropped, "example": searches.least_trace(model.kept)}
+        if given["stage"] == "model":
+            for each in listed:
+                each.witness = searches.least_trace(without(model.kept, each.constraint), each.constraint)
+        if given["out"] == "table":
+            return texts.model_table(names, listed, given["stage"] == "model")
+        return texts.report(names, log, listed, model, **told)
+
+    def model_of(self, given, names, log):
+        """The candidates with their scores, and, but for stage `scores`, what becomes of them."""
         scored = candidates(log, len(names), [given[name] for name in ["support", "confidence", "interest"]])
         if len(scored) > CANDIDATES:
             raise Refused("Candidates", len(scored))
-        stage = given["stage"]
-        if stage == "scores":
-            return texts.scores_report(names, log, scored)
+        if given["stage"] == "scores":
+            return scored, None, None
         searches = Searches(len(names), self.traces_tried)
         self.counted.append(searches)
-        model = reduced([constraint for constraint, _ in scored], stage, searches, given["max-states"])
-        witnesses = {}
-        if stage == "model":
-            witnesses = {c: searches.least_trace(without(model.kept, c), c) for c in model.kept}
-        return texts.model_report(names, log, scored, model, searches.least_trace(model.kept), witnesses)
+        constraints = [constraint for constraint, _ in scored]
+        return scored, reduced(constraints, given["stage"], searches, given["max-states"]), searches
+
+    def checked(self, given, read):
+        """Differs where some trace breaks some constraint."""
+        names, constraints = self.model(given, read)
+        rows = check(names, constraints, self.log(given, read))
+        return DIFFERS if any(row.broken for row in rows) else DONE, texts.check_table(names, constraints, rows)
+
+    def sampled(self, given):
+        """Each seed once, since it takes seconds."""
+        if given["seed"] not in self.samples:
+            names, log = ranked(string_log(generated(given["seed"], *SAMPLE.values())))
+            scored, model, _ = self.model_of(given, names, log)
+            self.samples[given["seed"]] = texts.summary(given["seed"], names, log, scored, model)
+        return self.samples[given["seed"]]

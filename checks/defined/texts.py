@@ -1,7 +1,8 @@
-"""What is printed: reports, and the table of the knowledge base."""
+"""What is printed: reports, tables, and the summary of a sample."""
 
 import itertools
 import json
+from dataclasses import dataclass
 
 
 def quoted(value):
@@ -25,13 +26,18 @@ def scored_value(constraint, scored, names):
     return constraint_value(constraint, names) | dict(members)
 
 
-def report(names, log, constraints, **more):
-    value = {"constraints": constraints, "events": sum(map(len, log)), "tasks": names, "traces": len(log)}
-    return (quoted(value | more) + "\n").encode()
+@dataclass
+class Listed:
+    """A constraint that a report lists: with its scores and, at stage `model`, its witness."""
+
+    constraint: tuple
+    scores: tuple
+    witness: tuple | None = None
 
 
-def scores_report(names, log, scored):
-    return report(names, log, [scored_value(c, s, names) for c, s in scored])
+def listed_value(each, names):
+    value = scored_value(each.constraint, each.scores, names)
+    return value if each.witness is None else value | {"witness": named(each.witness, names)}
 
 
 def dropped_value(constraint, scored, model, names):
@@ -41,18 +47,56 @@ def dropped_value(constraint, scored, model, names):
     return value
 
 
-def model_report(names, log, scored, model, example, witnesses):
-    """`witnesses` has none at stage `consistent`."""
-    kept, dropped = [], []
-    for constraint, its_scores in scored:
-        if constraint in model.why:
-            dropped.append(dropped_value(constraint, its_scores, model, names))
-            continue
-        value = scored_value(constraint, its_scores, names)
-        if constraint in witnesses:
-            value["witness"] = [names[rank] for rank in witnesses[constraint]]
-        kept.append(value)
-    return report(names, log, kept, dropped=dropped, example=[names[rank] for rank in example])
+def named(trace, names):
+    return [names[rank] for rank in trace]
+
+
+def report(names, log, listed, model, dropped=None, example=None):
+    """`dropped` and `example` aren't there at stage `scores`."""
+    constraints = [listed_value(each, names) for each in listed]
+    value = {"constraints": constraints, "events": sum(map(len, log)), "tasks": names, "traces": len(log)}
+    if model is not None:
+        value["dropped"] = [dropped_value(constraint, scored, model, names) for constraint, scored in dropped]
+        value["example"] = named(example, names)
+    return (quoted(value) + "\n").encode()
+
+
+# Tables.
+
+
+def columns(width, cells, rest):
+    return "".join(f"{cell:>{width}} " for cell in cells) + rest + "\n"
+
+
+def constraint_text(constraint, names):
+    template, activities = constraint
+    return f"{template}({','.join(quoted(names[a]) for a in activities)})"
+
+
+def model_table(names, listed, with_witnesses):
+    text = columns(12, ["support", "confidence", "interest"], "constraint")
+    for each in listed:
+        rest = constraint_text(each.constraint, names)
+        if with_witnesses:
+            rest += " " + quoted(named(each.witness, names))
+        text += columns(12, [f"{score.numerator}/{score.denominator}" for score in each.scores], rest)
+    return text.encode()
+
+
+def check_table(names, constraints, rows):
+    text = columns(10, ["activated", "fulfilled", "kept", "trace", "place"], "constraint")
+    for constraint, row in zip(constraints, rows):
+        trace, place = row.broken or ("-", "-")
+        text += columns(10, [row.activated, row.fulfilled, row.kept, trace, place], constraint_text(constraint, names))
+    return text.encode()
+
+
+def summary(seed, names, log, scored, model):
+    lines = {"seed": seed, "traces": len(log), "events": sum(map(len, log)), "tasks": len(names)}
+    lines |= {"candidates": len(scored), "listed": len(model.kept)}
+    dropped = list(model.why.values())
+    lines |= {why: dropped.count(why) for why in ["conflict", "weaker", "first-pass", "second-pass"]}
+    return "".join(f"{word} {number}\n" for word, number in lines.items()).encode()
 
 
 # The table of the knowledge base.
@@ -90,18 +134,14 @@ def pair_counters(log, a, b):
     return [sum(event[place] for event in events) for place in range(7)] + [together]
 
 
-def line(cells, names):
-    return "".join(f"{cell:>12} " for cell in cells) + names + "\n"
-
-
 def kb_table(names, log):
     ranks = range(len(names))
     text = f"traces {len(log)}\n"
-    text += line(["occurrences", "traces", "repeated", "first", "last"], "activity")
+    text += columns(12, ["occurrences", "traces", "repeated", "first", "last"], "activity")
     for a in ranks:
-        text += line(unary_counters(log, a), quoted(names[a]))
+        text += columns(12, unary_counters(log, a), quoted(names[a]))
     heads = "without no_later no_earlier next previous rep_later rep_earlier together"
-    text += line(heads.split(), "pair")
+    text += columns(12, heads.split(), "pair")
     for a, b in itertools.permutations(ranks, 2):
-        text += line(pair_counters(log, a, b), f"{quoted(names[a])} {quoted(names[b])}")
+        text += columns(12, pair_counters(log, a, b), f"{quoted(names[a])} {quoted(names[b])}")
     return text.encode()

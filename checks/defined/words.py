@@ -1,17 +1,27 @@
 """The settings that the words of a command line give, or the place of their fault."""
 
 import re
-from dataclasses import dataclass, field
 from fractions import Fraction
 
+from defined.logs import EVENTS, TRACES
 from defined.refusals import Refused
 
 LOG_OPTIONS = ["format", "case-column", "activity-column", "order-column", "order-as"]
 MINE_OPTIONS = LOG_OPTIONS + ["support", "confidence", "interest", "max-states", "stage", "out"]
-COMMANDS = {"mine": MINE_OPTIONS, "kb": LOG_OPTIONS}
+GEN_OPTIONS = ["seed", "traces", "length", "letters"]
+
+# Of each command its options, and what it takes by its place.
+COMMANDS = {
+    "mine": (MINE_OPTIONS, ["log"]),
+    "kb": (LOG_OPTIONS, ["log"]),
+    "check": (LOG_OPTIONS, ["model", "log"]),
+    "gen": (GEN_OPTIONS, []),
+    "sample": (["seed"], []),
+}
 
 # The number that a usage line names.
-PLACES = {name: place for place, name in enumerate(MINE_OPTIONS, 2)}
+PLACES = {name: place for place, name in enumerate(MINE_OPTIONS + GEN_OPTIONS, 2)}
+TWICE_STANDARD_INPUT, TOO_MANY_EVENTS = 17, 18
 
 
 def one_of(*texts):
@@ -28,48 +38,54 @@ def threshold(text):
     return Fraction(text)
 
 
-def states(text):
-    if not re.fullmatch(r"[0-9]{1,10}", text, re.ASCII) or not 1 <= int(text) <= 65_536:
-        return None
-    return int(text)
+def whole(least, most):
+    def number(text):
+        if not re.fullmatch(r"[0-9]{1,10}", text, re.ASCII) or not least <= int(text) <= most:
+            return None
+        return int(text)
+
+    return number
 
 
-@dataclass
-class Grammar:
-    """For each option what its text means, or None where it isn't in the grammar; and what it is where it's not given."""
+# What the text of each option means, or None where it isn't in the grammar.
+MEANINGS = {
+    "format": one_of("string", "csv"),
+    "case-column": any_text,
+    "activity-column": any_text,
+    "order-column": any_text,
+    "order-as": one_of("text", "number"),
+    "support": threshold,
+    "confidence": threshold,
+    "interest": threshold,
+    "max-states": whole(1, 65_536),
+    "stage": one_of("model", "consistent", "scores"),
+    "out": one_of("json", "table"),
+    "seed": whole(0, 4_294_967_295),
+    "traces": whole(0, TRACES),
+    "length": whole(1, 1_000),
+    "letters": whole(1, 26),
+}
 
-    stages: list
-    default_stage: str
-    meanings: dict = field(init=False)
-    defaults: dict = field(init=False)
-
-    def __post_init__(self):
-        self.meanings = {
-            "format": one_of("string", "csv"),
-            "case-column": any_text,
-            "activity-column": any_text,
-            "order-column": any_text,
-            "order-as": one_of("text", "number"),
-            "support": threshold,
-            "confidence": threshold,
-            "interest": threshold,
-            "max-states": states,
-            "stage": one_of(*self.stages),
-            "out": one_of("json"),
-        }
-        self.defaults = {
-            "format": "string",
-            "case-column": "case",
-            "activity-column": "activity",
-            "order-column": None,
-            "order-as": "text",
-            "support": Fraction(95, 100),
-            "confidence": Fraction(1, 4),
-            "interest": Fraction(1, 8),
-            "max-states": 16_384,
-            "stage": self.default_stage,
-            "out": "json",
-        }
+# What is taken where it isn't given.
+DEFAULTS = {
+    "format": "string",
+    "case-column": "case",
+    "activity-column": "activity",
+    "order-column": None,
+    "order-as": "text",
+    "support": Fraction(95, 100),
+    "confidence": Fraction(1, 4),
+    "interest": Fraction(1, 8),
+    "max-states": 16_384,
+    "stage": "model",
+    "out": "json",
+    "seed": 0,
+    "traces": 100,
+    "length": 10,
+    "letters": 4,
+    "model": "",
+    "log": "-",
+}
 
 
 def option_of(word):
@@ -83,10 +99,10 @@ def is_option(word):
 
 
 class Taken:
-    """The words of a simple command, taken one by one: options that each set one text, and one text by its place."""
+    """The words of a simple command, taken one by one: options that each set one text, and texts by their places."""
 
-    def __init__(self, options):
-        self.options, self.texts = options, {}
+    def __init__(self, options, places):
+        self.options, self.places, self.texts = options, list(places), {}
         self.waiting, self.only_places = None, False
 
     def give(self, name, text):
@@ -111,26 +127,32 @@ class Taken:
         elif not self.only_places and self.waiting:
             self.give(self.waiting, word)
             self.waiting = None
+        elif self.places:
+            self.give(self.places.pop(0), word)
         else:
-            self.give("log", word)
+            raise Refused("Usage", 1)
 
     def all(self, words):
         for word in words:
             self.word(word)
-        if self.waiting:
+        if self.waiting or "model" in self.places:
             raise Refused("Usage", 1)
         return self.texts
 
 
-def settings(words, grammar):
-    """The command, and the value of each option and of the log."""
+def settings(words):
+    """The command, and the value of each option, of the model and of the log."""
     if not words or words[0] not in COMMANDS:
         raise Refused("Usage", 0)
     command, *rest = words
-    texts = Taken(COMMANDS[command]).all(rest)
-    found = dict(grammar.defaults, command=command, log=texts.pop("log", "-"))
-    for name in sorted(texts, key=PLACES.get):
-        found[name] = grammar.meanings[name](texts[name])
+    texts = Taken(*COMMANDS[command]).all(rest)
+    found = DEFAULTS | texts | {"command": command}
+    for name in sorted(texts.keys() & PLACES.keys(), key=PLACES.get):
+        found[name] = MEANINGS[name](texts[name])
         if found[name] is None:
             raise Refused("Usage", PLACES[name])
+    if found["model"] == found["log"] == "-":
+        raise Refused("Usage", TWICE_STANDARD_INPUT)
+    if found["traces"] * found["length"] > EVENTS:
+        raise Refused("Usage", TOO_MANY_EVENTS)
     return found

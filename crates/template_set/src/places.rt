@@ -16,7 +16,7 @@ use templates_pair::{
 };
 use templates_unary::{AtMostOne, End, Init, Participation};
 
-/// Whether a trace keeps a constraint.
+/// Whether a trace keeps a constraint, by its automaton.
 pub fn keeps(constraint: &Constraint, trace: &[u32]) -> bool
     requires { IsWellMade constraint.now.kind constraint.now.first constraint.now.second }
     ensures { IsTrue result ↔ Keeps nat_eq constraint.now.kind constraint.now.first constraint.now.second trace.now }
@@ -122,7 +122,7 @@ fn chain_succession(constraint: &Constraint, before: &[u32], event: u32, after: 
     }
 }
 
-/// At its first activity the second comes before another first, and at another event the first came after any other second.
+/// At its first activity the second comes later, before another first, and at another event the first came earlier, after any other second.
 fn alternate_succession(constraint: &Constraint, before: &[u32], event: u32, after: &[u32]) -> bool
     ensures { result ≡ at_first nat_eq constraint.now.first (alternates_later nat_eq constraint.now.first constraint.now.second)
         (alternates_earlier nat_eq constraint.now.first constraint.now.second) before.now event after.now }

@@ -174,6 +174,16 @@ fn places_of_a_trace(rt: HostRuntime) {
             );
         }
     }
-    assert!(rt; !keeps(&over(Kind::Response, 0, 1), &trace));
-    assert!(rt; keeps(&over(Kind::Precedence, 0, 1), &trace));
+}
+
+/// The second 0 has no 1 after it.
+#[test]
+fn whole_traces(rt: HostRuntime) {
+    let response = Constraint {
+        kind: Kind::Response,
+        first: 0,
+        second: 1,
+    };
+    assert!(rt; keeps(&response, &[0, 1]));
+    assert!(rt; !keeps(&response, &[0, 1, 0]));
 }

@@ -30,13 +30,13 @@ use Rattle.trace_check.proofs.Renamed.{same_row}
 -- ---- the first that passes, with one more at the end
 
 module _ {A : Type 0} (p : A → Bool) where
-  at_most : (xs : List A) → position_or_len p xs ≤ length xs
+  pub at_most : (xs : List A) → position_or_len p xs ≤ length xs
   at_most xs = prefix_len-le-length (λ x. not (p x)) xs
 
-  position-at : (xs : List A) (i : ℕ) → position_or_len p xs ≡ i → i < length xs → position p xs ≡ Some i
+  pub position-at : (xs : List A) (i : ℕ) → position_or_len p xs ≡ i → i < length xs → position p xs ≡ Some i
   position-at xs i is inside = ap (λ n. cond (ltb n (length xs)) (Some n) None) is ∙ ap (λ b. cond b (Some i) None) (lt-ltb i (length xs) inside)
 
-  position-past : (xs : List A) → length xs ≤ position_or_len p xs → position p xs ≡ None
+  pub position-past : (xs : List A) → length xs ≤ position_or_len p xs → position p xs ≡ None
   position-past xs past = go (ltb (position_or_len p xs) (length xs)) refl
     where
       go : (b : Bool) → ltb (position_or_len p xs) (length xs) ≡ b → cond b (Some (position_or_len p xs)) None ≡ None

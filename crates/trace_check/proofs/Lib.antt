@@ -5,6 +5,7 @@ pub mod Events
 pub mod Failing
 pub mod Grows
 pub mod Indexing
+pub mod Kept
 pub mod Numbered
 pub mod Renamed
 pub mod Standing

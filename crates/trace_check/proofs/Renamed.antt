@@ -19,7 +19,7 @@ use Rattle.trace_check.specs.Checking.{first_place, first_broken, row}
 use Rattle.trace_check.specs.declared.checked.Broken.{Broken}
 use Rattle.trace_check.specs.declared.checked.Checked.{Checked}
 
-abbrev broken_at : ℕ → ℕ → Broken
+abbrev pub broken_at : ℕ → ℕ → Broken
 broken_at number place = record { trace = number; place = place }
 
 abbrev pub row_by : ℕ → ℕ → ℕ → Option Broken → Checked

@@ -5,6 +5,7 @@ mod checked;
 mod checking;
 mod demand;
 mod index;
+mod laws;
 mod report;
 mod rows;
 mod side;
@@ -12,4 +13,5 @@ mod tally;
 
 pub use checked::{Broken, Checked};
 pub use checking::check;
+pub use laws::kept_where_none_is_broken;
 pub use report::CheckReport;

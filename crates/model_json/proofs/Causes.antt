@@ -1,5 +1,5 @@
 -- A refusal is handed on, and want of memory is free.
-use Rattle.std.proofs.Common.{◌≡◌, ℕ, List, false, length, Result, Ok, Err, refl, sym, ap, ◌∙◌, subst}
+use Rattle.std.proofs.Common.{◌≡◌, ℕ, List, false, length, Result, Ok, Err, sym, ap, ◌∙◌, subst}
 use Rattle.std.specs.Prelude.{IfErr, IsErrAnd}
 use Rattle.decl_base.specs.Limits.{standard}
 use Rattle.decl_base.specs.declared.refusal.Refusal.{Refusal}

@@ -1,8 +1,8 @@
 -- A report nests a few levels only.
-use Rattle.std.proofs.Common.{◌≡◌, ℕ, ◌≤◌, List, [], ◌∷◌, map, codes, not, arith}
+use Rattle.std.proofs.Common.{ℕ, ◌≤◌, List, [], ◌∷◌, map, codes, not, arith}
 use Rattle.std.specs.Prelude.{slice_get, unwrap_or}
 use Rattle.std.specs.List.{zip}
-use Rattle.serde_json.specs.Data.{Data, Members, string, object, member, no_members, depth, items_depth, members_depth}
+use Rattle.serde_json.specs.Data.{Data, Members, string, member, no_members, depth, items_depth, members_depth}
 use Rattle.serde_json.specs.Read.{max_depth}
 use Rattle.serde_json.specs.View.{items_of}
 use Rattle.scoring.specs.declared.scored.Scored.{Scored}

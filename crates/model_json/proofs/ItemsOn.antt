@@ -1,10 +1,9 @@
 -- The names of the tasks and the items of the constraints, one more at a time.
-use Rattle.std.proofs.Common.{◌≡◌, ℕ, suc, ◌+◌, ◌≤◌, ◌<◌, List, [], ◌∷◌, ◌++◌, Some, None, Option, false, fold, length, map, take, drop, get_or, refl, sym, ap, ◌∙◌, Result, Ok, Err, arith, append-nil, drop-cons, add-one}
+use Rattle.std.proofs.Common.{◌≡◌, ℕ, suc, ◌+◌, ◌<◌, List, [], ◌∷◌, ◌++◌, Some, None, false, fold, length, map, take, drop, get_or, sym, ap, ◌∙◌, Ok, Err, arith, append-nil, drop-cons}
 use Rattle.std.specs.List.{filter_map, cons_option}
 use Rattle.std.proofs.lemmas.List.{map-append, take-append-drop, take_more}
 use Rattle.std.proofs.lemmas.List.Elements.{filter_map-append}
 use Rattle.std.proofs.lemmas.List.Sums.{fold-append}
-use Rattle.serde_json.specs.Data.{Data}
 use Rattle.serde_json.specs.Find.{as_str}
 use Rattle.serde_json.specs.View.{view}
 use Rattle.serde_json.specs.declared.value.Value.{Value}
@@ -13,7 +12,7 @@ use Rattle.decl_base.specs.declared.refusal.Refusal.{Refusal}
 use Rattle.decl_base.specs.declared.refusal.Refusal.TheVariants.{Activities}
 use Rattle.event_log.specs.Logs.{first_seen, has_name, with_name}
 use Rattle.template_core.specs.declared.constraint.Constraint.{Constraint}
-use Rattle.model_json.specs.Model.{Known, item_read, items_read, within}
+use Rattle.model_json.specs.Model.{item_read, items_read, within}
 use Rattle.model_json.proofs.Causes.{goes_on, stops}
 use Rattle.model_json.proofs.ItemsRead.{one_too_many}
 

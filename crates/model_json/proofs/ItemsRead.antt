@@ -1,5 +1,5 @@
 -- An item is read rule by rule.
-use Rattle.std.proofs.Common.{◌≡◌, ◌≢◌, ℕ, ◌+◌, ◌≤◌, ◌<◌, ◌&&◌, subst, List, [], ◌∷◌, ◌++◌, Bool, true, false, cond, eqb, fold, length, refl, sym, ap, ap₂, ◌∙◌, Option, None, Some, Result, Ok, Err, option_and_then, arith, ◌⊎◌, inl, inr}
+use Rattle.std.proofs.Common.{◌≡◌, ◌≢◌, ℕ, ◌≤◌, ◌<◌, ◌&&◌, subst, List, [], ◌∷◌, Bool, true, false, cond, eqb, fold, length, refl, sym, ap, ap₂, ◌∙◌, None, Some, Ok, Err, arith, ◌⊎◌, inl, inr}
 use Rattle.std.specs.Prelude.{nat_le}
 use Rattle.std.specs.List.{find}
 use Rattle.std.specs.Option.{ok_or}

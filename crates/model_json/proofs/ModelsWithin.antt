@@ -1,5 +1,5 @@
 -- What is read as a model is one, and what isn't is refused as one.
-use Rattle.std.proofs.Common.{◌≡◌, ◌≢◌, ℕ, suc, ◌+◌, ◌≤◌, ◌<◌, List, [], ◌∷◌, ◌++◌, Bool, true, false, cond, eqb, fold, length, refl, sym, ap, ap₂, ◌∙◌, subst, Option, None, Some, Result, Ok, Err, option_and_then, arith, true≢false, ⊎_elim}
+use Rattle.std.proofs.Common.{◌≡◌, ◌≢◌, ℕ, ◌+◌, ◌≤◌, ◌<◌, List, [], ◌∷◌, ◌++◌, Bool, true, false, cond, eqb, fold, length, refl, sym, ap, ◌∙◌, subst, Option, None, Some, Result, Ok, Err, option_and_then, arith, true≢false, ⊎_elim}
 use Rattle.std.specs.Prelude.{nat_le, All, slice_index_or}
 use Rattle.std.specs.Option.{ok_or}
 use Rattle.std.specs.Str.{bytes_eq}
@@ -15,14 +15,14 @@ use Rattle.decl_base.specs.declared.refusal.Refusal.{Refusal}
 use Rattle.decl_base.specs.declared.refusal.Refusal.TheVariants.{NotJson, ModelShape, Candidates, UnknownTemplate, Parameters, SameParameter, Activities}
 use Rattle.event_log.specs.Logs.{first_seen, with_name, place_of}
 use Rattle.event_log.proofs.Appearing.{first_seen-once, place-with_name, place_of-keeps, place_of-put, seen-least, with_name-keeps, with_name-least}
-use Rattle.template_core.specs.Constraints.{arity, IsWellMade, IsWellMadeIn, IsWellMadeFor}
+use Rattle.template_core.specs.Constraints.{arity, IsWellMadeIn, IsWellMadeFor}
 use Rattle.template_core.specs.Groups.{group_of, activities_of}
 use Rattle.template_core.specs.declared.group.Group.{Group}
 use Rattle.template_core.specs.declared.group.Group.TheVariants.{Existence, Relation, Mutual, Negative}
 use Rattle.template_core.specs.declared.constraint.Constraint.{Constraint}
 use Rattle.template_core.specs.declared.kind.Kind.{Kind}
 use Rattle.model_json.proofs.ItemsRead.{one_or_two}
-use Rattle.model_json.specs.Model.{StandOnce, Item, Known, Shape, IsModel, IsOfModel, ◌>>=◌, activities_in, each, is_twice, item_of, item_read, items_read, json_of, kind_named, model_of, model_of_bytes, only, put_in, shape_of, within}
+use Rattle.model_json.specs.Model.{StandOnce, Known, IsModel, IsOfModel, ◌>>=◌, activities_in, each, is_twice, item_of, item_read, items_read, json_of, kind_named, model_of, model_of_bytes, only, put_in, shape_of, within}
 
 -- ---- the first refusal decides
 

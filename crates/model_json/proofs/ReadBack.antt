@@ -1,6 +1,6 @@
 -- Reports are read back as models.
-use Rattle.std.proofs.Common.{◌≡◌, ◌≢◌, ℕ, suc, ◌+◌, ◌≤◌, ◌<◌, List, [], ◌∷◌, ◌++◌, ◌&&◌, Bool, true, false, cond, eqb, fold, length, map, codes, refl, sym, ap, ap₂, ◌∙◌, subst, Option, None, Some, Result, Ok, Err, option_and_then, option_map, arith, append_assoc, append-nil, length-append, not, ◌||◌, true≢false, ⊎_elim, ◌⊎◌, inl, inr}
-use Rattle.std.specs.Prelude.{All, slice_get, slice_index_or, unwrap_or}
+use Rattle.std.proofs.Common.{◌≡◌, ◌≢◌, ℕ, suc, ◌+◌, ◌≤◌, ◌<◌, List, [], ◌∷◌, ◌++◌, ◌&&◌, Bool, true, false, cond, eqb, fold, length, map, codes, refl, sym, ap, ap₂, ◌∙◌, subst, None, Some, Ok, option_and_then, option_map, arith, append_assoc, append-nil, length-append, not, ◌||◌, true≢false, ⊎_elim}
+use Rattle.std.specs.Prelude.{All, slice_index_or, unwrap_or}
 use Rattle.std.specs.List.{zip}
 use Rattle.std.specs.Str.{bytes_eq}
 use Rattle.std.specs.Cmp.Lexicographic.{bytes_decides}
@@ -8,23 +8,22 @@ use Rattle.std.proofs.lemmas.Bool.{eq-eqb}
 use Rattle.std.proofs.lemmas.List.{length-map}
 use Rattle.std.proofs.lemmas.List.Elements.{All-nil, All-cons, All-head, All-tail}
 use Rattle.std.proofs.lemmas.Option.{unwrap_or-slice_get}
-use Rattle.serde_json.specs.Data.{Data, Items, string, array, object}
+use Rattle.serde_json.specs.Data.{Data, string, array}
 use Rattle.serde_json.specs.Find.{as_str, get}
 use Rattle.serde_json.specs.View.{items_of}
 use Rattle.decl_base.specs.Limits.{standard}
 use Rattle.event_log.specs.Logs.{first_seen, has_name, with_name, place_of}
-use Rattle.event_log.proofs.Appearing.{one_place, place_of-put, with_name-known}
-use Rattle.template_core.specs.Constraints.{arity, IsWellMade, IsWellMadeIn, IsWellMadeFor}
+use Rattle.event_log.proofs.Appearing.{with_name-known}
+use Rattle.template_core.specs.Constraints.{arity, IsWellMadeIn, IsWellMadeFor}
 use Rattle.template_core.specs.Groups.{group_of, activities_of as activities_of_group}
 use Rattle.template_core.specs.declared.group.Group.{Group}
 use Rattle.template_core.specs.declared.group.Group.TheVariants.{Existence, Relation, Mutual, Negative}
 use Rattle.template_core.specs.declared.constraint.Constraint.{Constraint}
-use Rattle.template_core.specs.declared.kind.Kind.{Kind}
 use Rattle.template_set.specs.Names.{name_of}
 use Rattle.scoring.specs.declared.scored.Scored.{Scored}
 use Rattle.reduce_model.specs.Sifting.{Sifting}
 use Rattle.reduce_model.specs.declared.decision.Decision.{Decision}
-use Rattle.model_json.specs.Model.{Item, Known, Shape, IsModel, IsListed, StandOnce, activities, activities_in, each, has_version, is_twice, item_of, item_read, items_read, list_in, listed, model_of, only, put_in, shape_of, tasks_in, texts_in, values_of, within}
+use Rattle.model_json.specs.Model.{Item, Shape, IsListed, StandOnce, activities, activities_in, each, has_version, is_twice, item_of, item_read, items_read, list_in, listed, model_of, only, put_in, shape_of, tasks_in, texts_in, values_of, within}
 use Rattle.model_json.specs.Report.{activities_of, consistent_report, model_report, name_at, parameter_value, scored_value, scores_report, staying, witnessed_value}
 use Rattle.model_json.proofs.Causes.{goes_on}
 use Rattle.model_json.proofs.Chosen.{All-zip}

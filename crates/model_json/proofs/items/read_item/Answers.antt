@@ -1,9 +1,7 @@
-use Rattle.std.proofs.Common.{◌≡◌, ◌≤◌, [], ◌∷◌, List, ℕ, Some, Ok, Err, false, fold, length, sym, ap, ap₂, ◌∙◌, option_and_then, arith}
+use Rattle.std.proofs.Common.{◌≡◌, ◌≤◌, [], List, ℕ, Some, Ok, false, fold, length, sym, ap, ap₂, ◌∙◌, option_and_then, arith}
 use Rattle.serde_json.specs.View.{view}
 use Rattle.decl_base.specs.Limits.{standard}
-use Rattle.decl_base.specs.declared.refusal.Refusal.{Refusal}
 use Rattle.decl_base.specs.declared.refusal.Refusal.TheVariants.{Activities}
-use Rattle.event_log.specs.Alphabet.{Names}
 use Rattle.event_log.specs.Logs.{has_name, place_of, with_name}
 use Rattle.template_core.specs.declared.constraint.Constraint.{Constraint}
 use Rattle.template_core.specs.declared.kind.Kind.{Kind}

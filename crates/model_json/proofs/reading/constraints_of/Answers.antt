@@ -1,4 +1,4 @@
-use Rattle.std.proofs.Common.{◌≡◌, ◌∷◌, ◌++◌, [], ◌+◌, ap, ◌∙◌, sym, drop, map}
+use Rattle.std.proofs.Common.{[], ◌+◌, ap, ◌∙◌, sym, drop, map}
 use Rattle.serde_json.specs.View.{view}
 use Rattle.model_json.specs.Model.{item_read, items_read}
 use Rattle.model_json.proofs.Causes.{handed, handed_on}

@@ -1,4 +1,4 @@
-use Rattle.std.proofs.Common.{◌≡◌, ◌≤◌, [], Ok, Err, ap, sym, ◌∙◌, length, map, arith}
+use Rattle.std.proofs.Common.{◌≤◌, [], ap, sym, ◌∙◌, length, map, arith}
 use Rattle.std.specs.List.{filter_map}
 use Rattle.std.proofs.lemmas.List.{length-map}
 use Rattle.std.proofs.lemmas.Result.{IfErr-weaker, IfOk-weaker}

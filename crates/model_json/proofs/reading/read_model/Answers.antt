@@ -1,8 +1,8 @@
 use Rattle.std.proofs.Common.{◌∙◌}
 use Rattle.std.proofs.lemmas.Result.{IfErr-weaker, IfOk-weaker}
 use Rattle.serde_json.specs.View.{view}
-use Rattle.model_json.specs.Model.{model_of, model_of_bytes}
-use Rattle.model_json.proofs.Causes.{goes_on, handed, of_cause}
+use Rattle.model_json.specs.Model.{model_of}
+use Rattle.model_json.proofs.Causes.{goes_on, of_cause}
 use Rattle.model_json.proofs.ModelsWithin.{is_model, of_model}
 use Rattle.model_json.proofs.reading.read_model.Goals as goal
 

@@ -1,4 +1,3 @@
-use Rattle.std.proofs.Common.{◌∙◌, map}
 use Rattle.serde_json.specs.View.{view}
 use Rattle.model_json.proofs.Elements.{listed, shape_of-is}
 use Rattle.model_json.proofs.shapes.shape_of.Goals as goal

@@ -1,10 +1,9 @@
-use Rattle.std.proofs.Common.{rules, ◌≡◌, [], ◌∷◌, ◌++◌, Some, None, Ok, cond, ap, ◌∙◌, refl, string_bytes}
+use Rattle.std.proofs.Common.{rules, ◌≡◌, [], ◌∷◌, ◌++◌, None, cond, ap, ◌∙◌, refl, string_bytes}
 use Rattle.std.specs.Prelude.{IsUtf8}
 use Rattle.std.specs.Option.{ok_or}
 use Rattle.std.proofs.lemmas.Str.{is_utf8-from_IsUtf8, IsUtf8-append, IsUtf8-string_bytes}
 use Rattle.json.proofs.Printed.Utf8.{IsUtf8-are_ascii}
 use Rattle.serde_json.specs.Read.{read}
-use Rattle.serde_json.specs.View.{view}
 use Rattle.decl_base.specs.declared.refusal.Refusal.TheVariants.{NotJson}
 use Rattle.model_json.specs.Model.{json_of}
 use Rattle.model_json.proofs.LineFeeds.{read-lf}

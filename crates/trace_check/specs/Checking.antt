@@ -1,5 +1,5 @@
 -- What a check of a log says of each constraint. The traces are lists of names, and an activity is any event that has its name.
-use Rattle.std.specs.Prelude.{ℕ, ◌+◌, List, [], Bool, not, Option, map, filter, slice_index, slice_index_or, count_by}
+use Rattle.std.specs.Prelude.{ℕ, ◌+◌, List, [], Bool, not, Option, map, filter, slice_index, slice_index_or, count_by, nat_eq}
 use Rattle.std.specs.List.{position}
 use Rattle.std.specs.Option.{option_map}
 use Rattle.std.specs.Str.{bytes_eq}
@@ -31,6 +31,10 @@ module _ {A : Type 0} (same : A → A → Bool) (kind : Kind) (a b : A) where
     kept = count_by (keeps same kind a b) log;
     broken = first_broken log;
   }
+
+-- the same where the events are the numbers of activities
+abbrev pub numbered_row : List (List ℕ) → Constraint → Checked
+numbered_row log c = row nat_eq c.kind c.first c.second log
 
 -- the name of a constraint's activity
 abbrev pub name_at : List (List ℕ) → ℕ → List ℕ

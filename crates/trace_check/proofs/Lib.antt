@@ -1,0 +1,11 @@
+pub mod Asked
+pub mod Blocks
+pub mod Counting
+pub mod Events
+pub mod Failing
+pub mod Grows
+pub mod Indexing
+pub mod Numbered
+pub mod Renamed
+pub mod Standing
+pub mod Wholes

@@ -32,7 +32,7 @@ module _ {X : Type 0} (p : X → Bool) (before after : List X) (q : X) (grown : 
   pub filter-left : p q ≡ false → filter p after ≡ filter p before
   filter-left fails = one_more ∙ ap (λ b. filter p before ++ cond b (q ∷ []) []) fails ∙ append-nil (filter p before)
 
-All-zip : {X Y : Type 0} (P : X → Type 0) (xs : List X) (ys : List Y) → All P xs → All (λ q. P q.0) (zip xs ys)
+pub All-zip : {X Y : Type 0} (P : X → Type 0) (xs : List X) (ys : List Y) → All P xs → All (λ q. P q.0) (zip xs ys)
 All-zip {X} {Y} P [] ys h = All-nil (λ (q : X × Y). P q.0)
 All-zip {X} {Y} P (x ∷ xs) [] h = All-nil (λ (q : X × Y). P q.0)
 All-zip {X} {Y} P (x ∷ xs) (y ∷ ys) h = All-cons (λ (q : X × Y). P q.0) (x, y) (zip xs ys) (All-head P x xs h) (All-zip P xs ys (All-tail P x xs h))

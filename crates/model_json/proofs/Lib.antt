@@ -1,5 +1,14 @@
+pub mod Causes
 pub mod Chosen
+pub mod Depths
+pub mod Elements
 pub mod Floats
+pub mod ItemsOn
+pub mod ItemsRead
+pub mod KnownModels
+pub mod LineFeeds
 mod ModelRows
+pub mod ModelsWithin
+pub mod ReadBack
 pub mod Values
 mod WholeReport

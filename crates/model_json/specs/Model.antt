@@ -61,7 +61,14 @@ texts_in value = option_and_then (each as_str) (list_in value)
 abbrev pub is_version : Data → Bool
 is_version value = unwrap_or (option_map (λ n. is_float n || unwrap_or (option_map (λ whole. whole == 1) (as_u64 n)) false) (as_number value)) true
 
--- the constraints and the tasks, where the value has the shape of a model: both are lists, one of texts, which may be left out as the version may
+abbrev pub has_version : Data → Bool
+has_version value = unwrap_or (option_map is_version (get (codes "version") value)) true
+
+-- the tasks, where they are texts; none where the member is left out
+abbrev pub tasks_in : Data → Option (List (List ℕ))
+tasks_in value = unwrap_or (option_map texts_in (get (codes "tasks") value)) (Some [])
+
+-- the constraints and the tasks, where the value has the shape of a model
 pub record Shape : Type 0 where
   pub constraints : List Data
   pub tasks : List (List ℕ)
@@ -69,8 +76,8 @@ pub record Shape : Type 0 where
 abbrev pub shape_of : Data → Option Shape
 shape_of value =
     option_and_then (λ constraints. option_and_then (λ tasks.
-    if unwrap_or (option_map is_version (get (codes "version") value)) true then Some (record { constraints = constraints; tasks = tasks }) else None)
-    (unwrap_or (option_map texts_in (get (codes "tasks") value)) (Some [])))
+    if has_version value then Some (record { constraints = constraints; tasks = tasks }) else None)
+    (tasks_in value))
     (option_and_then list_in (get (codes "constraints") value))
 
 -- names within the limit on activities

@@ -1,14 +1,15 @@
 -- Reports as JSON values, and their texts. The members of an object stand in the byte order of their names.
-use Rattle.std.specs.Prelude.{◌≡◌, ◌≤◌, ◌==◌, ℕ, List, [], ◌∷◌, ◌++◌, Bool, true, false, not, if◌then◌else◌, map, codes, slice_get, unwrap_or, Some}
+use Rattle.std.specs.Prelude.{◌≡◌, ◌≤◌, ◌==◌, ℕ, List, [], ◌∷◌, ◌++◌, Bool, true, false, not, if◌then◌else◌, map, codes, slice_get, unwrap_or, Ok}
 use Rattle.std.specs.List.{filter, zip}
 use Rattle.serde_json.specs.Data.{Data, Members, number, unsigned, string, array, object, item, no_items, member, no_members, depth}
-use Rattle.serde_json.specs.Read.{read, max_depth}
+use Rattle.serde_json.specs.Read.{max_depth}
 use Rattle.serde_json.specs.View.{items_of}
 use Rattle.serde_json.specs.Written.{compact_text}
 use Rattle.decl_base.specs.Fraction.{Fraction}
 use Rattle.template_core.specs.Constraints.{arity}
 use Rattle.template_core.specs.declared.constraint.Constraint.{Constraint}
 use Rattle.template_set.specs.Names.{name_of}
+use Rattle.model_json.specs.Model.{json_of}
 use Rattle.scoring.specs.declared.scored.Scored.{Scored}
 use Rattle.reduce_model.specs.Sifting.{Sifting}
 use Rattle.reduce_model.specs.declared.decision.Decision.{Decision}
@@ -139,4 +140,4 @@ report_text value = compact_text value ++ (10 ∷ [])
 
 -- a line that reads as the value, unless it nests too deep to be read
 abbrev pub IsLineOf : Data → List ℕ → Type 0
-IsLineOf value bytes = (text : List ℕ) × (bytes ≡ text ++ (10 ∷ [])) × (depth value ≤ max_depth → read text ≡ Some value)
+IsLineOf value bytes = (text : List ℕ) × (bytes ≡ text ++ (10 ∷ [])) × (depth value ≤ max_depth → json_of bytes ≡ Ok value)

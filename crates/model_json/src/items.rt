@@ -1,7 +1,9 @@
 ghost use Rattle.std.specs.Prelude.{◌≡◌, ◌≤◌, List, ℕ, Ok, Some, None, length, is_some, map, option_map, option_and_then, IfOk, IfErr, OnOk, IfSome, IfNone};
+ghost use Rattle.std.specs.List.{list_all};
 ghost use Rattle.serde_json.specs.View.{view};
 ghost use Rattle.decl_base.specs.Limits.{standard};
-ghost use Rattle.model_json.specs.Model.{each, texts_in, item_of, item_read, only, activities_in, activities, ModelCause};
+ghost use Rattle.template_core.specs.Constraints.{arity};
+ghost use Rattle.model_json.specs.Model.{each, texts_in, item_of, item_read, only, activities_in, activities, is_twice, ModelCause};
 
 use crate::shapes::texts_in;
 use decl_base::Refusal;
@@ -30,12 +32,16 @@ pub(crate) fn read_item(
     ensures within { OnOk result (length names.new.names ≤ standard.activities) }
     ensures refusal { IfErr result (ModelCause (item_read number names.old.names (view value.now))) }
 {
-    let item = item_of(value).ok_or(Refusal::ModelShape { at: number })?;
-    let kind = kind_of(item.template).ok_or(Refusal::UnknownTemplate { at: number })?;
-    let (first, second) = activities_in(kind, item.parameters).ok_or(Refusal::Parameters {
-        at: number,
-    })?;
-    if arity(kind) == 2 && first == second {
+    let Some(item) = item_of(value) else {
+        return Err(Refusal::ModelShape { at: number });
+    };
+    let Some(kind) = kind_of(item.template) else {
+        return Err(Refusal::UnknownTemplate { at: number });
+    };
+    let Some((first, second)) = activities_in(kind, item.parameters) else {
+        return Err(Refusal::Parameters { at: number });
+    };
+    if is_twice(kind, first, second) {
         return Err(Refusal::SameParameter { at: number });
     }
     let first = names.add(first)?;
@@ -47,6 +53,13 @@ pub(crate) fn read_item(
     })
 }
 
+/// Whether a template of two activities is given one name for both.
+fn is_twice(kind: Kind, first: &str, second: &str) -> bool
+    ensures { result ≡ is_twice (activities kind first.now second.now) }
+{
+    arity(kind) == 2 && first == second
+}
+
 /// The parts of an item that has the shape of a constraint.
 fn item_of(value: &Value) -> Option<Item<'_>>
     ensures some { IfSome result (λ item. (parameters : List (List (List ℕ))) × (each texts_in (map view item.parameters.now) ≡ Some parameters)
@@ -54,7 +67,7 @@ fn item_of(value: &Value) -> Option<Item<'_>>
     ensures none { IfNone result (item_of (view value.now) ≡ None) }
 {
     let template = value.get("template")?.as_str()?;
-    let parameters = value.get("parameters")?.as_array()?;
+    let parameters = value.get("parameters")?.as_array()?.as_slice();
     if are_lists_of_texts(parameters) {
         Some(Item {
             template,
@@ -66,7 +79,7 @@ fn item_of(value: &Value) -> Option<Item<'_>>
 }
 
 fn are_lists_of_texts(list: &[Value]) -> bool
-    ensures { result ≡ is_some (each texts_in (map view list.now)) }
+    ensures { result ≡ list_all (λ element. is_some (texts_in (view element))) list.now }
 {
     list.iter().all(|element| texts_in(element).is_some())
 }
@@ -75,6 +88,7 @@ fn are_lists_of_texts(list: &[Value]) -> bool
 fn activities_in(kind: Kind, parameters: &[Value]) -> Option<(&str, &str)>
     ensures some { IfSome result (λ named. option_and_then (activities_in kind) (each texts_in (map view parameters.now))
         ≡ Some (activities kind named.0.now named.1.now)) }
+    ensures one { IfSome result (λ named. arity kind ≡ 1 → named.1.now ≡ named.0.now) }
     ensures none { IfNone result (option_and_then (activities_in kind) (each texts_in (map view parameters.now)) ≡ None) }
 {
     if parameters.len() != arity(kind) as usize {
@@ -91,7 +105,7 @@ fn activities_in(kind: Kind, parameters: &[Value]) -> Option<(&str, &str)>
 fn only(parameter: &Value) -> Option<&str>
     ensures { option_map (λ text. text.now) result ≡ option_and_then only (texts_in (view parameter.now)) }
 {
-    let list = parameter.as_array()?;
+    let list = parameter.as_array()?.as_slice();
     if list.len() == 1 {
         list[0].as_str()
     } else {

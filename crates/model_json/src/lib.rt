@@ -9,6 +9,8 @@ mod laws;
 mod reading;
 mod report;
 mod shapes;
+#[cfg(test)]
+mod tests;
 mod text;
 
 pub use constraints::trace_value;

@@ -54,7 +54,9 @@ fn model_of(alloc: Global, value: &Value) -> Result<KnownModel, Refusal>
     ensures model { IfOk result (λ model. model_of (view value.now) ≡ Ok model) }
     ensures refusal { IfErr result (ModelCause (model_of (view value.now))) }
 {
-    let shape = shape_of(value).ok_or(Refusal::ModelShape { at: 0 })?;
+    let Some(shape) = shape_of(value) else {
+        return Err(Refusal::ModelShape { at: 0 });
+    };
     let count = shape.constraints.len() as u64;
     if count > Limits::standard().candidates {
         return Err(Refusal::Candidates { count });

@@ -1,11 +1,12 @@
 ghost use Rattle.std.specs.Prelude.{◌≡◌, List, ℕ, Some, None, is_some, map, option_map, IfSome, IfNone};
+ghost use Rattle.std.specs.List.{list_all};
 ghost use Rattle.serde_json.specs.Find.{as_str};
 ghost use Rattle.serde_json.specs.View.{view};
-ghost use Rattle.model_json.specs.Model.{each, texts_in, is_version, shape_of};
+ghost use Rattle.model_json.specs.Model.{each, has_version, is_version, shape_of, tasks_in, texts_in};
 
 use serde_json::Value;
 
-/// What a value says as a whole: the items of `constraints`, and of `tasks` the texts, none where it isn't there.
+/// What a value says as a whole: the items of `constraints`, and those of `tasks`, which are texts.
 #[derive(Clone, Copy)]
 pub(crate) struct Shape<'a> {
     pub constraints: &'a [Value],
@@ -18,18 +19,25 @@ pub(crate) fn shape_of(value: &Value) -> Option<Shape<'_>>
         × (shape_of (view value.now) ≡ Some (record { constraints = map view shape.constraints.now; tasks = tasks }))) }
     ensures none { IfNone result (shape_of (view value.now) ≡ None) }
 {
-    let constraints = value.get("constraints")?.as_array()?;
-    let tasks = match value.get("tasks") {
-        Some(tasks) => texts_in(tasks)?,
-        None => &[],
-    };
-    match value.get("version") {
-        Some(version) if !is_version(version) => None,
-        _ => Some(Shape { constraints, tasks }),
+    let constraints = value.get("constraints")?.as_array()?.as_slice();
+    let tasks = tasks_in(value)?;
+    if has_version(value) {
+        Some(Shape { constraints, tasks })
+    } else {
+        None
     }
 }
 
-/// Whether it is 1, or no whole number.
+/// Whether its version, if any, is 1, or no whole number.
+fn has_version(value: &Value) -> bool
+    ensures { result ≡ has_version (view value.now) }
+{
+    match value.get("version") {
+        Some(version) => is_version(version),
+        None => true,
+    }
+}
+
 fn is_version(version: &Value) -> bool
     ensures { result ≡ is_version (view version.now) }
 {
@@ -39,18 +47,30 @@ fn is_version(version: &Value) -> bool
     }
 }
 
+/// The tasks, where they are texts; none where the member is left out.
+fn tasks_in(value: &Value) -> Option<&[Value]>
+    ensures some { IfSome result (λ list. (texts : List (List ℕ)) × (each as_str (map view list.now) ≡ Some texts)
+        × (tasks_in (view value.now) ≡ Some texts)) }
+    ensures none { IfNone result (tasks_in (view value.now) ≡ None) }
+{
+    match value.get("tasks") {
+        Some(tasks) => texts_in(tasks),
+        None => Some(&[]),
+    }
+}
+
 /// The elements of a list of texts.
 pub(crate) fn texts_in(value: &Value) -> Option<&[Value]>
     ensures some { IfSome result (λ list. (texts : List (List ℕ)) × (each as_str (map view list.now) ≡ Some texts)
         × (texts_in (view value.now) ≡ Some texts)) }
     ensures none { IfNone result (texts_in (view value.now) ≡ None) }
 {
-    let list = value.as_array()?;
+    let list = value.as_array()?.as_slice();
     if are_texts(list) { Some(list) } else { None }
 }
 
 fn are_texts(list: &[Value]) -> bool
-    ensures { result ≡ is_some (each as_str (map view list.now)) }
+    ensures { result ≡ list_all (λ element. is_some (as_str (view element))) list.now }
 {
     list.iter().all(|element| element.is_string())
 }

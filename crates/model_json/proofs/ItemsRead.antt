@@ -1,0 +1,181 @@
+-- An item is read rule by rule.
+use Rattle.std.proofs.Common.{◌≡◌, ◌≢◌, ℕ, ◌+◌, ◌≤◌, ◌<◌, ◌&&◌, subst, List, [], ◌∷◌, ◌++◌, Bool, true, false, cond, eqb, fold, length, refl, sym, ap, ap₂, ◌∙◌, Option, None, Some, Result, Ok, Err, option_and_then, arith, ◌⊎◌, inl, inr}
+use Rattle.std.specs.Prelude.{nat_le}
+use Rattle.std.specs.List.{find}
+use Rattle.std.specs.Option.{ok_or}
+use Rattle.std.specs.Str.{bytes_eq}
+use Rattle.std.specs.Cmp.Lexicographic.{bytes_decides}
+use Rattle.std.proofs.lemmas.Bool.Decides.{nat_tests}
+use Rattle.serde_json.specs.Data.{Data}
+use Rattle.decl_base.specs.Limits.{standard}
+use Rattle.decl_base.specs.declared.refusal.Refusal.{Refusal}
+use Rattle.decl_base.specs.declared.refusal.Refusal.TheVariants.{ModelShape, UnknownTemplate, Parameters, SameParameter, Activities}
+use Rattle.event_log.specs.Logs.{with_name, has_name, place_of}
+use Rattle.event_log.proofs.Appearing.{place-with_name, place_of-keeps, place_of-put, seen-least, with_name-known, with_name-new}
+use Rattle.template_core.specs.Constraints.{arity}
+use Rattle.template_core.specs.declared.constraint.Constraint.{Constraint}
+use Rattle.template_core.specs.declared.kind.Kind.{Kind}
+use Rattle.template_core.specs.declared.kind.Kind.TheVariants.{Init, End, Participation, AtMostOne, ChainSuccession, AlternateSuccession, Succession, CoExistence, ChainResponse, AlternateResponse, Response, ChainPrecedence, AlternatePrecedence, Precedence, RespondedExistence, NotCoExistence, NotSuccession, NotChainSuccession}
+use Rattle.template_set.specs.Names.{all_kinds, name_of}
+use Rattle.model_json.specs.Model.{Item, item_of, item_read, kind_named, activities_in, activities, is_twice, put_in, within}
+use Rattle.model_json.proofs.Causes.{goes_on, stops}
+
+-- ---- names of templates
+
+find-none : {A : Type 0} (p : A → Bool) → ((x : A) → p x ≡ false) → (xs : List A) → find p xs ≡ None
+find-none p none [] = refl
+find-none p none (x ∷ xs) = ap (λ b. cond b (Some x) (find p xs)) (none x) ∙ find-none p none xs
+
+pub named-none : (text : List ℕ) → ((kind : Kind) → text ≢ name_of kind) → kind_named text ≡ None
+named-none text other = find-none (λ kind. bytes_eq text (name_of kind)) (λ kind. apart kind (bytes_eq text (name_of kind)) refl) all_kinds
+  where
+    apart : (kind : Kind) (b : Bool) → bytes_eq text (name_of kind) ≡ b → b ≡ false
+    apart kind true e = absurd (other kind ((bytes_decides text (name_of kind)).0 e))
+    apart kind false e = refl
+
+own : (kind : Kind) → kind_named (name_of kind) ≡ Some kind
+own Init = refl
+own End = refl
+own Participation = refl
+own AtMostOne = refl
+own ChainSuccession = refl
+own AlternateSuccession = refl
+own Succession = refl
+own CoExistence = refl
+own ChainResponse = refl
+own AlternateResponse = refl
+own Response = refl
+own ChainPrecedence = refl
+own AlternatePrecedence = refl
+own Precedence = refl
+own RespondedExistence = refl
+own NotCoExistence = refl
+own NotSuccession = refl
+own NotChainSuccession = refl
+
+pub named-some : (text : List ℕ) (kind : Kind) → text ≡ name_of kind → kind_named text ≡ Some kind
+named-some text kind h = ap kind_named h ∙ own kind
+
+-- ---- activities
+
+pub one_or_two : (kind : Kind) → (arity kind ≡ 1) ⊎ (arity kind ≡ 2)
+one_or_two Init = inl refl
+one_or_two End = inl refl
+one_or_two Participation = inl refl
+one_or_two AtMostOne = inl refl
+one_or_two ChainSuccession = inr refl
+one_or_two AlternateSuccession = inr refl
+one_or_two Succession = inr refl
+one_or_two CoExistence = inr refl
+one_or_two ChainResponse = inr refl
+one_or_two AlternateResponse = inr refl
+one_or_two Response = inr refl
+one_or_two ChainPrecedence = inr refl
+one_or_two AlternatePrecedence = inr refl
+one_or_two Precedence = inr refl
+one_or_two RespondedExistence = inr refl
+one_or_two NotCoExistence = inr refl
+one_or_two NotSuccession = inr refl
+one_or_two NotChainSuccession = inr refl
+
+-- ---- names within the limit
+
+pub within-few : (names : List (List ℕ)) → length names ≤ standard.activities → within names ≡ Ok names
+within-few names h =
+    let few : nat_le (length names) standard.activities ≡ true = grind (arith, nat_tests) in
+    ap (λ b. cond b (Ok names) (Err (Activities standard.activities))) few
+
+pub within-many : (names : List (List ℕ)) → standard.activities < length names → within names ≡ Err (Activities standard.activities)
+within-many names h =
+    let many : nat_le (length names) standard.activities ≡ false = grind (arith, nat_tests) in
+    ap (λ b. cond b (Ok names) (Err (Activities standard.activities))) many
+
+-- a new name behind as many as the limit is one too many, whatever comes behind it
+pub one_too_many : (names more : List (List ℕ)) (name : List ℕ) → length names ≡ standard.activities → has_name names name ≡ false
+    → within (fold with_name (with_name names name) more) ≡ Err (Activities standard.activities)
+one_too_many names more name full new =
+    within-many (fold with_name (with_name names name) more) (omega (arith, full, with_name-new names name new, seen-least (with_name names name) more))
+
+-- ---- the rules, one after another
+
+module _ (number : ℕ) (names : List (List ℕ)) (value : Data) where
+  pub read-no_shape : item_of value ≡ None → item_read number names value ≡ Err (ModelShape number)
+  read-no_shape h = stops _ _ (ModelShape number) (ap (λ o. ok_or o (ModelShape number)) h)
+
+  module _ (texts : Item) (shape : item_of value ≡ Some texts) where
+    shaped : ok_or (item_of value) (ModelShape number) ≡ Ok texts
+    shaped = ap (λ o. ok_or o (ModelShape number)) shape
+
+    pub read-unknown : kind_named texts.template ≡ None → item_read number names value ≡ Err (UnknownTemplate number)
+    read-unknown h = goes_on _ _ texts shaped ∙ stops _ _ (UnknownTemplate number) (ap (λ o. ok_or o (UnknownTemplate number)) h)
+
+    module _ (kind : Kind) (known : kind_named texts.template ≡ Some kind) where
+      of_kind : ok_or (kind_named texts.template) (UnknownTemplate number) ≡ Ok kind
+      of_kind = ap (λ o. ok_or o (UnknownTemplate number)) known
+
+      pub read-parameters : activities_in kind texts.parameters ≡ None → item_read number names value ≡ Err (Parameters number)
+      read-parameters h = goes_on _ _ texts shaped ∙ goes_on _ _ kind of_kind ∙ stops _ _ (Parameters number) (ap (λ o. ok_or o (Parameters number)) h)
+
+      module _ (put : List (List ℕ)) (given : activities_in kind texts.parameters ≡ Some put) where
+        activated : ok_or (activities_in kind texts.parameters) (Parameters number) ≡ Ok put
+        activated = ap (λ o. ok_or o (Parameters number)) given
+
+        pub read-twice : is_twice put ≡ true → item_read number names value ≡ Err (SameParameter number)
+        read-twice h =
+            goes_on _ _ texts shaped ∙ goes_on _ _ kind of_kind ∙ goes_on _ _ put activated
+            ∙ stops _ _ (SameParameter number) (ap (λ b. cond b (Err (SameParameter number)) (Ok put)) h)
+
+        module _ (differ : is_twice put ≡ false) where
+          different : cond (is_twice put) (Err (SameParameter number)) (Ok put) ≡ Ok put
+          different = ap (λ b. cond b (Err (SameParameter number)) (Ok put)) differ
+
+          pub read-many : (r : Refusal) → within (fold with_name names put) ≡ Err r → item_read number names value ≡ Err r
+          read-many r h =
+              goes_on _ _ texts shaped ∙ goes_on _ _ kind of_kind ∙ goes_on _ _ put activated ∙ goes_on _ _ put different ∙ stops _ _ r h
+
+          pub read-constraint : (more : List (List ℕ)) → within (fold with_name names put) ≡ Ok more → item_read number names value ≡ Ok (put_in kind more put, more)
+          read-constraint more h =
+              goes_on _ _ texts shaped ∙ goes_on _ _ kind of_kind ∙ goes_on _ _ put activated ∙ goes_on _ _ put different ∙ goes_on _ _ more h
+
+-- ---- the names that are put in
+
+module _ (kind : Kind) (first second : List ℕ) where
+  by_arity : (P : List (List ℕ) → Type 0) → (arity kind ≡ 1 → P (first ∷ [])) → (arity kind ≡ 2 → P (first ∷ second ∷ [])) → P (activities kind first second)
+  by_arity P one two = go (one_or_two kind)
+    where
+      chosen : Bool → List (List ℕ)
+      chosen b = cond b (first ∷ []) (first ∷ second ∷ [])
+
+      go : (arity kind ≡ 1) ⊎ (arity kind ≡ 2) → P (activities kind first second)
+      go (inl h) = subst (λ n. P (chosen (eqb n 1))) (sym h) (one h)
+      go (inr h) = subst (λ n. P (chosen (eqb n 1))) (sym h) (two h)
+
+  pub is_twice-activities : is_twice (activities kind first second) ≡ (eqb (arity kind) 2 && bytes_eq first second)
+  is_twice-activities = by_arity (λ put. is_twice put ≡ (eqb (arity kind) 2 && bytes_eq first second))
+      (λ h. ap (λ n. eqb n 2 && bytes_eq first second) (sym h)) (λ h. ap (λ n. eqb n 2 && bytes_eq first second) (sym h))
+
+  pub first-activities : (rest : List (List ℕ)) × (activities kind first second ≡ first ∷ rest)
+  first-activities = by_arity (λ put. (rest : List (List ℕ)) × (put ≡ first ∷ rest)) (λ h. ([], refl)) (λ h. (second ∷ [], refl))
+
+  module _ (names : List (List ℕ)) (one : arity kind ≡ 1 → second ≡ first) where
+    more : List (List ℕ)
+    more = with_name (with_name names first) second
+
+    put_first : place_of (with_name names first) first < length (with_name names first)
+    put_first = omega (arith, place_of-put names first, (place-with_name names first).0)
+
+    pub fold-activities : fold with_name names (activities kind first second) ≡ with_name (with_name names first) second
+    fold-activities = by_arity (λ put. fold with_name names put ≡ with_name (with_name names first) second)
+        (λ h. sym (ap (with_name (with_name names first)) (one h) ∙ with_name-known (with_name names first) first put_first)) (λ h. refl)
+
+    keeps : place_of (with_name (with_name names first) second) first ≡ place_of names first
+    keeps = place_of-keeps (with_name names first) first second put_first ∙ place_of-put names first
+
+    pub put_in-activities : put_in kind (with_name (with_name names first) second) (activities kind first second)
+        ≡ record { kind = kind; first = place_of names first; second = place_of (with_name names first) second }
+    put_in-activities = by_arity (λ put. put_in kind (with_name (with_name names first) second) put ≡ record { kind = kind; first = place_of names first; second = place_of (with_name names first) second })
+        (λ h. ap₂ made keeps (keeps ∙ sym (ap (place_of (with_name names first)) (one h) ∙ place_of-put names first)))
+        (λ h. ap₂ made keeps (place_of-put (with_name names first) second))
+      where
+        made : ℕ → ℕ → Constraint
+        made a b = record { kind = kind; first = a; second = b }

@@ -1,0 +1,259 @@
+-- Reports are read back as models.
+use Rattle.std.proofs.Common.{◌≡◌, ◌≢◌, ℕ, suc, ◌+◌, ◌≤◌, ◌<◌, List, [], ◌∷◌, ◌++◌, ◌&&◌, Bool, true, false, cond, eqb, fold, length, map, codes, refl, sym, ap, ap₂, ◌∙◌, subst, Option, None, Some, Result, Ok, Err, option_and_then, option_map, arith, append_assoc, append-nil, length-append, not, ◌||◌, true≢false, ⊎_elim, ◌⊎◌, inl, inr}
+use Rattle.std.specs.Prelude.{All, slice_get, slice_index_or, unwrap_or}
+use Rattle.std.specs.List.{zip}
+use Rattle.std.specs.Str.{bytes_eq}
+use Rattle.std.specs.Cmp.Lexicographic.{bytes_decides}
+use Rattle.std.proofs.lemmas.Bool.{eq-eqb}
+use Rattle.std.proofs.lemmas.List.{length-map}
+use Rattle.std.proofs.lemmas.List.Elements.{All-nil, All-cons, All-head, All-tail}
+use Rattle.std.proofs.lemmas.Option.{unwrap_or-slice_get}
+use Rattle.serde_json.specs.Data.{Data, Items, string, array, object}
+use Rattle.serde_json.specs.Find.{as_str, get}
+use Rattle.serde_json.specs.View.{items_of}
+use Rattle.decl_base.specs.Limits.{standard}
+use Rattle.event_log.specs.Logs.{first_seen, has_name, with_name, place_of}
+use Rattle.event_log.proofs.Appearing.{one_place, place_of-put, with_name-known}
+use Rattle.template_core.specs.Constraints.{arity, IsWellMade, IsWellMadeIn, IsWellMadeFor}
+use Rattle.template_core.specs.Groups.{group_of, activities_of as activities_of_group}
+use Rattle.template_core.specs.declared.group.Group.{Group}
+use Rattle.template_core.specs.declared.group.Group.TheVariants.{Existence, Relation, Mutual, Negative}
+use Rattle.template_core.specs.declared.constraint.Constraint.{Constraint}
+use Rattle.template_core.specs.declared.kind.Kind.{Kind}
+use Rattle.template_set.specs.Names.{name_of}
+use Rattle.scoring.specs.declared.scored.Scored.{Scored}
+use Rattle.reduce_model.specs.Sifting.{Sifting}
+use Rattle.reduce_model.specs.declared.decision.Decision.{Decision}
+use Rattle.model_json.specs.Model.{Item, Known, Shape, IsModel, IsListed, StandOnce, activities, activities_in, each, has_version, is_twice, item_of, item_read, items_read, list_in, listed, model_of, only, put_in, shape_of, tasks_in, texts_in, values_of, within}
+use Rattle.model_json.specs.Report.{activities_of, consistent_report, model_report, name_at, parameter_value, scored_value, scores_report, staying, witnessed_value}
+use Rattle.model_json.proofs.Causes.{goes_on}
+use Rattle.model_json.proofs.Chosen.{All-zip}
+use Rattle.model_json.proofs.Elements.{values_of-items_of}
+use Rattle.model_json.proofs.ItemsRead.{fold-activities, is_twice-activities, named-some, one_or_two, put_in-activities, read-constraint, within-few}
+use Rattle.model_json.proofs.KnownModels.{model-items}
+
+-- ---- names that stand once are their own first appearances
+
+front_place : (front more : List (List ℕ)) (name : List ℕ) → has_name front name ≡ true → place_of (front ++ more) name < length front
+front_place [] more name h = absurd (true≢false (sym h))
+front_place (x ∷ front) more name h = go (bytes_eq name x) (front_place front more name) h
+  where
+    go : (b : Bool) → (has_name front name ≡ true → place_of (front ++ more) name < length front) → (b || has_name front name) ≡ true
+        → cond (not b) (1 + place_of (front ++ more) name) 0 < suc (length front)
+    go true later k = omega arith
+    go false later k = omega (arith, later k)
+
+get_behind : (front more : List (List ℕ)) (x : List ℕ) → slice_index_or (front ++ x ∷ more) (length front) [] ≡ x
+get_behind [] more x = refl
+get_behind (y ∷ front) more x = get_behind front more x
+
+seen_behind : (front more : List (List ℕ)) → StandOnce (front ++ more) → fold with_name front more ≡ front ++ more
+seen_behind front [] once = sym (append-nil front)
+seen_behind front (x ∷ more) once =
+    let joined : front ++ x ∷ more ≡ (front ++ x ∷ []) ++ more = sym (append_assoc front (x ∷ []) more) in
+    ap (λ l. fold with_name l more) (ap (λ b. cond b front (front ++ x ∷ [])) (new (has_name front x) refl))
+    ∙ seen_behind (front ++ x ∷ []) more (subst StandOnce joined once) ∙ sym joined
+  where
+    new : (b : Bool) → has_name front x ≡ b → b ≡ false
+    new true e = absurd (omega (arith, front_place front (x ∷ more) x e, once (length front) (omega (arith, length-append front (x ∷ more))), ap (place_of (front ++ x ∷ more)) (get_behind front more x)))
+    new false e = refl
+
+first_seen-own : (names : List (List ℕ)) → StandOnce names → first_seen names ≡ names
+first_seen-own names once = seen_behind [] names once
+
+-- ---- one item
+
+module _ (names : List (List ℕ)) where
+  each-parameters : (ranks : List ℕ) → each texts_in (values_of (items_of (map (parameter_value names) ranks))) ≡ Some (map (λ rank. name_at names rank ∷ []) ranks)
+  each-parameters [] = refl
+  each-parameters (rank ∷ ranks) = ap (option_map (λ ys. (name_at names rank ∷ []) ∷ ys)) (each-parameters ranks)
+
+  each-only : (ranks : List ℕ) → each only (map (λ rank. name_at names rank ∷ []) ranks) ≡ Some (map (name_at names) ranks)
+  each-only [] = refl
+  each-only (rank ∷ ranks) = ap (option_map (λ ys. name_at names rank ∷ ys)) (each-only ranks)
+
+  put_is : (c : Constraint) → map (name_at names) (activities_of c) ≡ activities c.kind (name_at names c.first) (name_at names c.second)
+  put_is c = go (eqb (arity c.kind) 1)
+    where
+      go : (b : Bool) → map (name_at names) (cond b (c.first ∷ []) (c.first ∷ c.second ∷ [])) ≡ cond b (name_at names c.first ∷ []) (name_at names c.first ∷ name_at names c.second ∷ [])
+      go true = refl
+      go false = refl
+
+  as_many : (c : Constraint) → length (map (name_at names) (activities_of c)) ≡ arity c.kind
+  as_many c = ⊎_elim (λ one. ap (λ n. length (map (name_at names) (chosen (eqb n 1)))) one ∙ sym one) (λ two. ap (λ n. length (map (name_at names) (chosen (eqb n 1)))) two ∙ sym two) (one_or_two c.kind)
+    where
+      chosen : Bool → List ℕ
+      chosen b = cond b (c.first ∷ []) (c.first ∷ c.second ∷ [])
+
+  given : (c : Constraint) → activities_in c.kind (map (λ rank. name_at names rank ∷ []) (activities_of c)) ≡ Some (activities c.kind (name_at names c.first) (name_at names c.second))
+  given c =
+      ap (option_and_then (λ names. cond (eqb (length names) (arity c.kind)) (Some names) None)) (each-only (activities_of c))
+      ∙ ap (λ n. cond (eqb n (arity c.kind)) (Some (map (name_at names) (activities_of c))) None) (as_many c)
+      ∙ ap (λ b. cond b (Some (map (name_at names) (activities_of c))) None) (same_number (arity c.kind))
+      ∙ ap Some (put_is c)
+    where
+      same_number : (n : ℕ) → eqb n n ≡ true
+      same_number n = eq-eqb n n refl
+
+  at_rank : (rank : ℕ) → name_at names rank ≡ slice_index_or names rank []
+  at_rank rank = unwrap_or-slice_get names rank []
+
+  module _ (once : StandOnce names) (few : length names ≤ standard.activities) (c : Constraint) (made : IsWellMadeFor (length names) c) where
+    place : (rank : ℕ) → rank < length names → place_of names (name_at names rank) ≡ rank
+    place rank inside = ap (place_of names) (at_rank rank) ∙ once rank inside
+
+    one : arity c.kind ≡ 1 → c.second ≡ c.first
+    one h = sym (made_one (group_of c.kind) h made.made)
+      where
+        made_one : (group : Group) → activities_of_group group ≡ 1 → IsWellMadeIn group c.first c.second → c.first ≡ c.second
+        made_one Existence h m = m
+        made_one (Relation activation) h m = absurd (omega (arith, h))
+        made_one Mutual h m = absurd (omega (arith, h))
+        made_one Negative h m = absurd (omega (arith, h))
+
+    two : arity c.kind ≡ 2 → c.first ≢ c.second
+    two h = made_two (group_of c.kind) h made.made
+      where
+        made_two : (group : Group) → activities_of_group group ≡ 2 → IsWellMadeIn group c.first c.second → c.first ≢ c.second
+        made_two Existence h m = absurd (omega (arith, h))
+        made_two (Relation activation) h m = m
+        made_two Mutual h m = m
+        made_two Negative h m = m
+
+    apart : arity c.kind ≡ 2 → bytes_eq (name_at names c.first) (name_at names c.second) ≡ false
+    apart h = go (bytes_eq (name_at names c.first) (name_at names c.second)) refl
+      where
+        go : (b : Bool) → bytes_eq (name_at names c.first) (name_at names c.second) ≡ b → b ≡ false
+        go true e = absurd (two h (sym (place c.first made.first) ∙ ap (place_of names) ((bytes_decides _ _).0 e) ∙ place c.second made.second))
+        go false e = refl
+
+    not_twice : is_twice (activities c.kind (name_at names c.first) (name_at names c.second)) ≡ false
+    not_twice =
+        is_twice-activities c.kind (name_at names c.first) (name_at names c.second)
+        ∙ ⊎_elim (λ h. ap (λ n. eqb n 2 && bytes_eq (name_at names c.first) (name_at names c.second)) h)
+        (λ h. ap₂ (λ n b. eqb n 2 && b) h (apart h)) (one_or_two c.kind)
+
+    same_name : arity c.kind ≡ 1 → name_at names c.second ≡ name_at names c.first
+    same_name h = ap (name_at names) (one h)
+
+    first_known : with_name names (name_at names c.first) ≡ names
+    first_known = with_name-known names (name_at names c.first) (omega (arith, place c.first made.first, made.first))
+
+    second_known : with_name (with_name names (name_at names c.first)) (name_at names c.second) ≡ names
+    second_known =
+        ap (λ l. with_name l (name_at names c.second)) first_known ∙ with_name-known names (name_at names c.second) (omega (arith, place c.second made.second, made.second))
+
+    put_back : put_in c.kind (with_name (with_name names (name_at names c.first)) (name_at names c.second)) (activities c.kind (name_at names c.first) (name_at names c.second)) ≡ c
+    put_back =
+        put_in-activities c.kind (name_at names c.first) (name_at names c.second) names same_name
+        ∙ ap₂ (λ a b. constraint a b) (place c.first made.first) (ap (λ l. place_of l (name_at names c.second)) first_known ∙ place c.second made.second)
+      where
+        constraint : ℕ → ℕ → Constraint
+        constraint a b = record { kind = c.kind; first = a; second = b }
+
+    -- an item that names the constraint is read as it
+    pub item_back : (number : ℕ) (value : Data) → item_of value ≡ Some (record { template = name_of c.kind; parameters = map (λ rank. name_at names rank ∷ []) (activities_of c) })
+        → item_read number names value ≡ Ok (c, names)
+    item_back number value is =
+        read-constraint number names value _ is c.kind (named-some (name_of c.kind) c.kind refl) (activities c.kind (name_at names c.first) (name_at names c.second)) (given c) not_twice
+        (with_name (with_name names (name_at names c.first)) (name_at names c.second))
+        (ap within (fold-activities c.kind (name_at names c.first) (name_at names c.second) names same_name)
+        ∙ within-few (with_name (with_name names (name_at names c.first)) (name_at names c.second)) (omega (arith, ap length second_known, few)))
+        ∙ ap₂ (λ (k : Constraint) (l : List (List ℕ)). Ok (k, l)) put_back second_known
+
+-- a constraint with its scores is an item that names it, whatever members stand behind
+scored_item : (names : List (List ℕ)) (s : Scored) → item_of (scored_value names s)
+    ≡ Some (record { template = name_of s.constraint.kind; parameters = map (λ rank. name_at names rank ∷ []) (activities_of s.constraint) })
+scored_item names s = ap (option_map (λ parameters. item (name_of s.constraint.kind) parameters)) (each-parameters names (activities_of s.constraint))
+  where
+    item : List ℕ → List (List (List ℕ)) → Item
+    item template parameters = record { template = template; parameters = parameters }
+
+witnessed_item : (names : List (List ℕ)) (s : Scored) (witness : List ℕ) → item_of (witnessed_value names s witness)
+    ≡ Some (record { template = name_of s.constraint.kind; parameters = map (λ rank. name_at names rank ∷ []) (activities_of s.constraint) })
+witnessed_item names s witness = ap (option_map (λ parameters. item (name_of s.constraint.kind) parameters)) (each-parameters names (activities_of s.constraint))
+  where
+    item : List ℕ → List (List (List ℕ)) → Item
+    item template parameters = record { template = template; parameters = parameters }
+
+-- ---- the items of a report
+
+abbrev unscored : Scored → Constraint
+unscored s = s.constraint
+
+-- values that each name the constraint of their place are read as these constraints
+items_back : {X : Type 0} (value : X → Data) (scored : X → Scored) (names : List (List ℕ)) → StandOnce names → length names ≤ standard.activities
+    → ((x : X) → item_of (value x) ≡ Some (record { template = name_of (scored x).constraint.kind; parameters = map (λ rank. name_at names rank ∷ []) (activities_of (scored x).constraint) }))
+    → (number : ℕ) (before : List Constraint) (xs : List X) → All (λ x. IsWellMadeFor (length names) (scored x).constraint) xs
+    → items_read number (record { names = names; constraints = before }) (map value xs) ≡ Ok (record { names = names; constraints = before ++ map (λ x. (scored x).constraint) xs })
+items_back value scored names once few is number before [] made = ap (λ l. Ok (record { names = names; constraints = l })) (sym (append-nil before))
+items_back value scored names once few is number before (x ∷ xs) made =
+    goes_on _ _ ((scored x).constraint, names) (item_back names once few (scored x).constraint (All-head (λ x. IsWellMadeFor (length names) (scored x).constraint) x xs made) number (value x) (is x))
+    ∙ items_back value scored names once few is (number + 1) (before ++ (scored x).constraint ∷ []) xs (All-tail (λ x. IsWellMadeFor (length names) (scored x).constraint) x xs made)
+    ∙ ap (λ l. Ok (record { names = names; constraints = l })) (append_assoc before ((scored x).constraint ∷ []) (map (λ x. (scored x).constraint) xs))
+
+-- ---- reports
+
+each-tasks : (names : List (List ℕ)) → each as_str (values_of (items_of (map string names))) ≡ Some names
+each-tasks [] = refl
+each-tasks (name ∷ names) = ap (option_map (λ ys. name ∷ ys)) (each-tasks names)
+
+abbrev shape : List Data → List (List ℕ) → Shape
+shape constraints tasks = record { constraints = constraints; tasks = tasks }
+
+-- the shape of a value whose members are these lists
+shaped : (value : Data) (constraints : List Data) (names : List (List ℕ)) → get (codes "constraints") value ≡ Some (array (items_of constraints))
+    → get (codes "tasks") value ≡ Some (array (items_of (map string names))) → has_version value ≡ true → shape_of value ≡ Some (shape constraints names)
+shaped value constraints names has_constraints has_tasks versioned =
+    ap (option_and_then (λ constraints. option_and_then (λ tasks. cond (has_version value) (Some (shape constraints tasks)) None) (tasks_in value)))
+    (ap (option_and_then list_in) has_constraints ∙ ap Some (values_of-items_of constraints))
+    ∙ ap (option_and_then (λ tasks. cond (has_version value) (Some (shape constraints tasks)) None))
+    (ap (λ o. unwrap_or (option_map texts_in o) (Some [])) has_tasks ∙ each-tasks names)
+    ∙ ap (λ b. cond b (Some (shape constraints names)) None) versioned
+
+-- what is well made without its scores is so with them
+with_scores : (n : ℕ) (list : List Scored) → All (IsWellMadeFor n) (map unscored list) → All (λ s. IsWellMadeFor n s.constraint) list
+with_scores n [] made = All-nil (λ (s : Scored). IsWellMadeFor n s.constraint)
+with_scores n (s ∷ list) made =
+    All-cons (λ (s : Scored). IsWellMadeFor n s.constraint) s list (All-head (IsWellMadeFor n) s.constraint (map unscored list) made)
+    (with_scores n list (All-tail (IsWellMadeFor n) s.constraint (map unscored list) made))
+
+-- a value that lists items for these constraints, and these names, is read as they
+report_back : {X : Type 0} (report : Data) (value : X → Data) (scored : X → Scored) (names : List (List ℕ)) (xs : List X) (list : List Scored)
+    → ((x : X) → item_of (value x) ≡ Some (record { template = name_of (scored x).constraint.kind; parameters = map (λ rank. name_at names rank ∷ []) (activities_of (scored x).constraint) }))
+    → map (λ x. (scored x).constraint) xs ≡ map unscored list → All (λ x. IsWellMadeFor (length names) (scored x).constraint) xs → IsListed names list
+    → shape_of report ≡ Some (shape (map value xs) names) → model_of report ≡ Ok (listed names list)
+report_back report value scored names xs list is same made known shape_is =
+    let few : length (map value xs) ≤ standard.candidates =
+    omega (arith, length-map xs value, length-map xs (λ x. (scored x).constraint), ap length same, known.few_constraints) in
+    model-items report (shape (map value xs) names) shape_is few names (ap within (first_seen-own names known.once) ∙ within-few names known.few_names)
+    ∙ items_back value scored names known.once known.few_names is 1 [] xs made ∙ ap (λ l. Ok (record { names = names; constraints = l })) same
+
+-- with as many witnesses, the constraints are the same
+beside : (list : List Scored) (witnesses : List (List ℕ)) → length witnesses ≡ length list → map (λ (p : Scored × List ℕ). p.0.constraint) (zip list witnesses) ≡ map unscored list
+beside [] witnesses h = refl
+beside (s ∷ list) [] h = absurd (omega (arith, h))
+beside (s ∷ list) (w ∷ witnesses) h = ap (λ l. s.constraint ∷ l) (beside list witnesses (omega (arith, h)))
+
+pub scores_back : (names : List (List ℕ)) (list : List Scored) (traces events : ℕ) → IsListed names list → model_of (scores_report names list traces events) ≡ Ok (listed names list)
+scores_back names list traces events known =
+    report_back (scores_report names list traces events) (scored_value names) (λ s. s) names list list (scored_item names) refl (with_scores (length names) list known.made) known
+    (shaped (scores_report names list traces events) (map (scored_value names) list) names refl refl refl)
+
+pub consistent_back : (names : List (List ℕ)) (list : List Scored) (sifting : Sifting) (traces events : ℕ) → IsListed names (staying list sifting.decisions)
+    → model_of (consistent_report names list sifting traces events) ≡ Ok (listed names (staying list sifting.decisions))
+consistent_back names list sifting traces events known =
+    let kept = staying list sifting.decisions in
+    report_back (consistent_report names list sifting traces events) (scored_value names) (λ s. s) names kept kept (scored_item names) refl (with_scores (length names) kept known.made) known
+    (shaped (consistent_report names list sifting traces events) (map (scored_value names) kept) names refl refl refl)
+
+pub model_back : (names : List (List ℕ)) (list : List Scored) (decisions : List Decision) (witnesses : List (List ℕ)) (example : List ℕ) (traces events : ℕ)
+    → IsListed names (staying list decisions) → length witnesses ≡ length (staying list decisions)
+    → model_of (model_report names list decisions witnesses example traces events) ≡ Ok (listed names (staying list decisions))
+model_back names list decisions witnesses example traces events known many =
+    let kept = staying list decisions in
+    let value : Scored × List ℕ → Data = λ p. witnessed_value names p.0 p.1 in
+    report_back (model_report names list decisions witnesses example traces events) value (λ p. p.0) names (zip kept witnesses) kept
+    (λ p. witnessed_item names p.0 p.1) (beside kept witnesses many)
+    (All-zip (λ s. IsWellMadeFor (length names) s.constraint) kept witnesses (with_scores (length names) kept known.made)) known
+    (shaped (model_report names list decisions witnesses example traces events) (map value (zip kept witnesses)) names refl refl refl)

@@ -1,5 +1,5 @@
 -- Small tables and a summary, computed.
-use Rattle.std.proofs.Common.{◌≡◌, [], ◌∷◌, ◌++◌, codes, refl, None, Some}
+use Rattle.std.proofs.Common.{◌≡◌, [], ◌∷◌, codes, refl, None, Some}
 use Rattle.serde_json.proofs.OnLiterals.{serde_json_on_literals}
 use Rattle.std.specs.Fmt.{digits}
 use Rattle.decl_base.specs.Fraction.{Fraction}

@@ -11,3 +11,6 @@ pub use checks::check_table;
 pub use counters::kb_table;
 pub use model::{consistent_table, model_table, scores_table};
 pub use summary::summary_text;
+
+#[cfg(test)]
+mod tests;

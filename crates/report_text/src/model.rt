@@ -1,7 +1,7 @@
 ghost use Rattle.std.specs.Prelude.{◌≡◌, ◌<◌, ◌++◌, ◌∷◌, [], List, ℕ, map, string_bytes, length, All, IfOk, IfErr, OnOk};
 ghost use Rattle.std.specs.List.{zip};
 ghost use Rattle.serde_json.specs.Written.{compact_text};
-ghost use Rattle.template_core.specs.Constraints.{arity, IsWellMadeFor};
+ghost use Rattle.template_core.specs.Constraints.{IsWellMadeFor};
 ghost use Rattle.model_json.specs.Report.{staying, trace_value};
 ghost use Rattle.report_text.specs.Fields.{quoted, column};
 ghost use Rattle.report_text.specs.ModelTable.{score_text, scored_text, scores_table_text, consistent_table_text, witnessed_table_text, model_table_text};
@@ -70,7 +70,8 @@ pub fn model_table(
     Ok(witnessed_table(alloc, names, &kept, reduced.witnesses())?)
 }
 
-fn witnessed_table(
+/// The table of constraints, each with its witness.
+pub(crate) fn witnessed_table(
     alloc: Global,
     names: &Alphabet,
     kept: &[Scored],
@@ -132,46 +133,4 @@ fn put_witness(
     out.extend_from_slice(text.as_bytes())?;
     out.push(b'\n')?;
     Ok(())
-}
-
-#[cfg(test)]
-mod tests {
-    use super::*;
-    use std::test::Fail;
-    use template_core::{Constraint, Kind};
-
-    fn of_one(kind: Kind) -> Scored
-        requires { arity kind ≡ 1 }
-        ensures { IsWellMadeFor 1 result.constraint }
-    {
-        let whole = Frac::new(1, 1);
-        Scored {
-            constraint: Constraint {
-                kind,
-                first: 0,
-                second: 0,
-            },
-            support: whole,
-            confidence: whole,
-            interest: whole,
-        }
-    }
-
-    /// The constraints that are listed for the log of one trace of one event.
-    #[test]
-    fn one_event(rt: HostRuntime) -> Result<(), Fail> {
-        let mut names = Alphabet::new(rt.alloc(), 1_000);
-        names.add("a")?;
-        let list = [of_one(Kind::Init), of_one(Kind::AtMostOne)];
-        let witnesses = [Trace::of(rt.alloc(), &[])?, Trace::of(rt.alloc(), &[0, 0])?];
-        let text = witnessed_table(rt.alloc(), &names, &list, &witnesses)?;
-        let expected =
-            "     support   confidence     interest constraint\n         1/1          1/1          1/1 Init(\"a\") []\n         1/1          1/1          1/1 AtMostOne(\"a\") [\"a\",\"a\"]\n";
-        assert_eq!(rt; text.as_slice(), expected.as_bytes());
-        let text = scores_table(rt.alloc(), &names, &list)?;
-        let expected =
-            "     support   confidence     interest constraint\n         1/1          1/1          1/1 Init(\"a\")\n         1/1          1/1          1/1 AtMostOne(\"a\")\n";
-        assert_eq!(rt; text.as_slice(), expected.as_bytes());
-        Ok(())
-    }
 }

@@ -74,20 +74,3 @@ fn put_line(out: &mut Vec<u8>, word: &str, number: u64) -> Result<(), AllocError
     out.push(b'\n')?;
     Ok(())
 }
-
-#[cfg(test)]
-mod tests {
-    use super::*;
-    use reduce_model::reduce;
-    use std::test::Fail;
-
-    #[test]
-    fn no_candidate(rt: HostRuntime) -> Result<(), Fail> {
-        let reduced = reduce(rt.alloc(), &[], 0, 1)?;
-        let text = summary_text(rt.alloc(), 7, 2, 0, 0, &reduced)?;
-        let expected =
-            "seed 7\ntraces 2\nevents 0\ntasks 0\ncandidates 0\nlisted 0\nconflict 0\nweaker 0\nfirst-pass 0\nsecond-pass 0\n";
-        assert_eq!(rt; text.as_slice(), expected.as_bytes());
-        Ok(())
-    }
-}

@@ -1,4 +1,4 @@
-use Rattle.std.proofs.Common.{◌≡◌, ◌++◌, take}
+use Rattle.std.proofs.Common.{◌≡◌, take}
 use Rattle.report_text.specs.CheckTable.{check_table_text}
 use Rattle.report_text.proofs.checks.check_table.Given as goal
 

@@ -1,4 +1,4 @@
-use Rattle.std.proofs.Common.{◌≡◌, ◌++◌, ◌∷◌, [], string_bytes, sym, ap, ap₂, ◌∙◌}
+use Rattle.std.proofs.Common.{◌++◌, ◌∷◌, [], string_bytes, sym, ap, ap₂, ◌∙◌}
 use Rattle.report_text.specs.Fields.{quoted_at}
 use Rattle.report_text.proofs.Joined.{name_at, two}
 use Rattle.report_text.proofs.Written.{one_name, two_names}

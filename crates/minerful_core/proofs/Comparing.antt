@@ -1,12 +1,10 @@
 -- A check of what was read, and its outcome.
-use Rattle.std.proofs.Common.{◌≡◌, ℕ, zero, suc, take, ◌+◌, ◌<◌, ◌≤◌, List, [], ◌∷◌, Bool, true, false, ◌||◌, cond, not, nat_lt, length, map, Option, None, Some, Result, Ok, Err, IfSome, ◌⊎◌, inl, inr, refl, sym, ap, ap₂, subst, ◌∙◌, arith}
+use Rattle.std.proofs.Common.{◌≡◌, ℕ, zero, suc, take, ◌+◌, ◌≤◌, List, [], ◌∷◌, Bool, true, false, ◌||◌, not, nat_lt, length, Option, None, Some, Result, Ok, Err, IfSome, refl, sym, ap, ap₂, subst, ◌∙◌, arith}
 use Rattle.std.proofs.lemmas.Bool.Decides.{nat_tests}
 use Rattle.std.proofs.Math.Seq.{take-nil}
 use Rattle.std.specs.List.{list_any, position, position_or_len}
-use Rattle.std.specs.Prelude.{Contains, fold, is_some, option_map, if◌then◌else◌}
-use Rattle.std.specs.Str.{bytes_eq}
+use Rattle.std.specs.Prelude.{fold, is_some, option_map, if◌then◌else◌}
 use Rattle.decl_base.specs.declared.refusal.Refusal.{Refusal}
-use Rattle.decl_base.specs.declared.status.Status.{Status}
 use Rattle.decl_base.specs.declared.status.Status.TheVariants as status
 use Rattle.decl_outside.specs.Faults.{Rose}
 use Rattle.decl_outside.specs.Inputs.{FailedIn, InputState, noted}
@@ -19,7 +17,7 @@ use Rattle.trace_check.specs.declared.checked.Checked.{Checked}
 use Rattle.minerful_core.specs.Commands.{OfContents}
 use Rattle.minerful_core.specs.Outcome.{Outcome, answers, refuses, is_broken_by, keeps_named, log_in, model_in, IsCheckOutcome, IsOutcomeOf}
 use Rattle.minerful_core.specs.Refusing.{MayRefuse}
-use Rattle.minerful_core.specs.Run.{AsksFor, InputFailed, IsEnd}
+use Rattle.minerful_core.specs.Run.{AsksFor, InputFailed}
 use Rattle.minerful_core.proofs.Answering.{told_only}
 use Rattle.minerful_core.proofs.Refusing.{MayRefuse-weaker, told}
 

@@ -1,5 +1,5 @@
 -- What a text in memory is to the reader of a log.
-use Rattle.std.specs.Prelude.{ℕ, List, drop, false, true, None, Some, option_map}
+use Rattle.std.specs.Prelude.{ℕ, List, drop, false, true, None, Some}
 use Rattle.decl_outside.specs.Inputs.{InputState}
 use Rattle.minerful_core.specs.declared.text_input.TextInput.{TextInput}
 

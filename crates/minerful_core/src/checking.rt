@@ -9,7 +9,7 @@ ghost use Rattle.minerful_core.specs.Reading.{IsWithin};
 ghost use Rattle.minerful_core.specs.Run.{AsksFor, IsEnd};
 
 use crate::answer::Answer;
-use crate::reading::{read_log, read_known_model};
+use crate::reading::{read_known_model, read_log};
 use decl_base::{Refusal, Status};
 use decl_outside::Inputs;
 use event_log::{Alphabet, Log};

@@ -1,6 +1,5 @@
 use Rattle.std.proofs.Common.{Ok, ap}
 use Rattle.event_log.specs.Logs.{named}
-use Rattle.minerful_core.specs.TextInput.{state_of}
 use Rattle.minerful_core.proofs.Refusing.{handed_on}
 use Rattle.minerful_core.proofs.Reports.{kb_of_strings}
 use Rattle.minerful_core.proofs.Samples.{read_sample, sample_outcome, sample_refusal}

@@ -4,6 +4,8 @@
 #[cfg(test)]
 mod automata;
 #[cfg(test)]
+mod commands;
+#[cfg(test)]
 mod reports;
 #[cfg(test)]
 mod tests;

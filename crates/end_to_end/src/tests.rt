@@ -50,16 +50,28 @@ pub(crate) fn run_with(
 ) -> Result<Ran, Fail>
     requires { 0 < outside.piece }
 {
+    let mut inputs = MemInputs::new(alloc, outside.piece, outside.reads.to_vec(alloc)?);
+    inputs.put(Name::of(alloc, "-")?, bytes.to_vec(alloc)?)?;
+    inputs.put(Name::of(alloc, "log.txt")?, bytes.to_vec(alloc)?)?;
+    run_on(alloc, words, &mut inputs, outside)
+}
+
+/// Runs the words, parted by spaces, on these inputs.
+pub(crate) fn run_on(
+    alloc: Global,
+    words: &str,
+    inputs: &mut MemInputs,
+    outside: Outside,
+) -> Result<Ran, Fail>
+    requires { 0 < outside.piece }
+{
     let mut list = Vec::new(alloc);
     for word in words.split_ascii_whitespace() {
         list.push(String::from_str(alloc, word)?)?;
     }
-    let mut inputs = MemInputs::new(alloc, outside.piece, outside.reads.to_vec(alloc)?);
-    inputs.put(Name::of(alloc, "-")?, bytes.to_vec(alloc)?)?;
-    inputs.put(Name::of(alloc, "log.txt")?, bytes.to_vec(alloc)?)?;
     let mut out = MemSink::new(alloc, ROOM, outside.piece, outside.writes.to_vec(alloc)?)?;
     let mut err = MemSink::new(alloc, ROOM, outside.piece, outside.lines.to_vec(alloc)?)?;
-    let status = run(alloc, &list, &mut inputs, &mut out, &mut err);
+    let status = run(alloc, &list, inputs, &mut out, &mut err);
     Ok(Ran { status, out, err })
 }
 
@@ -95,6 +107,21 @@ fn reports_are_printed(rt: HostRuntime) -> Result<(), Fail> {
             "kb",
             "ab\n",
             "traces 1\n occurrences       traces     repeated        first         last activity\n           1            1            0            1            0 \"a\"\n           1            1            0            0            1 \"b\"\n     without     no_later   no_earlier         next     previous    rep_later  rep_earlier     together pair\n           0            0            1            1            0            0            0            1 \"a\" \"b\"\n           0            1            0            0            1            0            0            1 \"b\" \"a\"\n",
+        ),
+        (
+            "mine --out table",
+            "a\n",
+            "     support   confidence     interest constraint\n         1/1          1/1          1/1 Init(\"a\") []\n         1/1          1/1          1/1 AtMostOne(\"a\") [\"a\",\"a\"]\n",
+        ),
+        (
+            "mine --stage consistent --out table",
+            "a\n",
+            "     support   confidence     interest constraint\n         1/1          1/1          1/1 Init(\"a\")\n         1/1          1/1          1/1 End(\"a\")\n         1/1          1/1          1/1 Participation(\"a\")\n         1/1          1/1          1/1 AtMostOne(\"a\")\n",
+        ),
+        (
+            "gen --seed 0 --traces 2 --length 3 --letters 3",
+            "",
+            "aa\nba\n",
         ),
         (
             "kb",

@@ -19,7 +19,7 @@ use Rattle.minerful_core.specs.Outcome.{Outcome, answers, refuses, is_broken_by,
 use Rattle.minerful_core.specs.Refusing.{MayRefuse}
 use Rattle.minerful_core.specs.Run.{AsksFor, InputFailed}
 use Rattle.minerful_core.proofs.Answering.{told_only}
-use Rattle.minerful_core.proofs.Refusing.{MayRefuse-weaker, told}
+use Rattle.minerful_core.proofs.Refusing.{MayRefuse-weaker}
 
 -- ---- whether some trace breaks some constraint
 
@@ -64,20 +64,13 @@ compared model log names other list same rows broken text names_are list_is othe
 -- ---- the two inputs
 
 -- what failed later failed over the whole
-pub failed_later : (name : Option (List ℕ)) (old mid new : InputState) → old.faults ≤ mid.faults → FailedIn name mid new → FailedIn name old new
+failed_later : (name : Option (List ℕ)) (old mid new : InputState) → old.faults ≤ mid.faults → FailedIn name mid new → FailedIn name old new
 failed_later name old mid new later h = record { rose = rises old.faults mid.faults new.faults later h.rose; asked = h.asked; failed = h.failed }
   where
     rises : (a b c : ℕ) → a ≤ b → Rose b c → Rose a c
     rises a b c l h = omega (arith, l, h)
 
 module _ (first second : List ℕ) (old mid new : InputState) where
-  pub asks_first : AsksFor (first ∷ []) old new → AsksFor (first ∷ second ∷ []) old new
-  asks_first h = go h.0 h.1
-    where
-      go : (n : ℕ) → new.names ≡ fold noted old.names (take n (first ∷ [])) → AsksFor (first ∷ second ∷ []) old new
-      go zero e = (0, e)
-      go (suc n) e = (1, e ∙ ap (fold noted (noted old.names first)) (take-nil n))
-
   pub asks_both : mid.names ≡ noted old.names first → AsksFor (second ∷ []) mid new → AsksFor (first ∷ second ∷ []) old new
   asks_both asked h = go h.0 h.1
     where
@@ -97,22 +90,13 @@ module _ (s : Settings) (old mid new : InputState) where
   abbrev HasModel : Known → Type 0
   HasModel model = IfSome old.contents (λ contents. model_in s contents ≡ Ok model)
 
-  -- what has no model is refused
-  pub no_model : (r : Refusal) → MayRefuse (FailedIn (Some s.model) old new) (λ r. IfSome old.contents (λ contents. model_in s contents ≡ Err r)) r → MayRefuseCheck r
-  no_model r h =
-      MayRefuse-weaker (FailedIn (Some s.model) old new) (InputFailed (s.model ∷ s.log ∷ []) old new) (λ r. IfSome old.contents (λ contents. model_in s contents ≡ Err r))
-      (λ r. OfContents (s.model ∷ s.log ∷ []) old (λ contents. Is contents (refuses r))) (λ failed. (s.model, (0, omega arith, refl), failed))
-      (λ r e. told_only s.model (s.log ∷ []) old (λ contents. Is contents (refuses r))
-      (told old.contents (λ contents. model_in s contents ≡ Err r) (λ contents. Is contents (refuses r))
-      (λ contents e. subst (λ found. IsOutcomeOf (λ model. IsOutcomeOf (IsCheckOutcome model) (log_in s contents)) found (refuses r)) (sym e) refl) e)) r h
-
   both : (model : Known) (contents : List ℕ → List ℕ) (found : Result (List (List (List ℕ))) Refusal) (o : Outcome) → model_in s contents ≡ Ok model → log_in s contents ≡ found
       → IsOutcomeOf (IsCheckOutcome model) found o → Is contents o
   both model contents found o model_is log_is h =
       subst (λ m. IsOutcomeOf (λ model. IsOutcomeOf (IsCheckOutcome model) (log_in s contents)) m o) (sym model_is) (subst (λ l. IsOutcomeOf (IsCheckOutcome model) l o) (sym log_is) h)
 
   -- the outcome of a model and of what was found behind it
-  pub of_both : (model : Known) (found : Result (List (List (List ℕ))) Refusal) (o : Outcome) → HasModel model → mid.contents ≡ old.contents
+  of_both : (model : Known) (found : Result (List (List (List ℕ))) Refusal) (o : Outcome) → HasModel model → mid.contents ≡ old.contents
       → IfSome mid.contents (λ contents. log_in s contents ≡ found) → IsOutcomeOf (IsCheckOutcome model) found o → OfContents (s.model ∷ s.log ∷ []) old (λ contents. Is contents o)
   of_both model found o has_model same has_log h =
       told_only s.model (s.log ∷ []) old (λ contents. Is contents o)

@@ -1,0 +1,104 @@
+//! Logs that are checked against a model, and one that is generated and mined.
+use crate::tests::{CALM, Ran, run_on, run_with};
+use decl_base::{Name, Status};
+use decl_outside::MemInputs;
+use std::alloc::Global;
+use std::test::Fail;
+
+/// Runs the words with this model as the file `m` and this log as standard input.
+fn run_check(alloc: Global, words: &str, model: &[u8], log: &[u8]) -> Result<Ran, Fail> {
+    let mut inputs = MemInputs::new(alloc, CALM.piece, Vec::new(alloc));
+    inputs.put(Name::of(alloc, "m")?, model.to_vec(alloc)?)?;
+    inputs.put(Name::of(alloc, "-")?, log.to_vec(alloc)?)?;
+    run_on(alloc, words, &mut inputs, CALM)
+}
+
+const RESPONSE: &[u8] =
+    b"{\"constraints\":[{\"template\":\"Response\",\"parameters\":[[\"a\"],[\"b\"]],\"support\":0.98}]}";
+
+const RESPONSE_OF_Z: &[u8] =
+    b"{\"constraints\":[{\"template\":\"Response\",\"parameters\":[[\"z\"],[\"a\"]]}]}";
+
+const INIT: &[u8] = b"{\"constraints\":[{\"template\":\"Init\",\"parameters\":[[\"a\"]]}]}";
+
+#[test]
+fn checks_are_told(rt: HostRuntime) -> Result<(), Fail> {
+    let cases = [
+        (
+            RESPONSE,
+            "ab\na\n",
+            Status::Differs,
+            " activated  fulfilled       kept      trace      place constraint\n         2          1          1          2          0 Response(\"a\",\"b\")\n",
+        ),
+        (
+            RESPONSE_OF_Z,
+            "ab\n",
+            Status::Done,
+            " activated  fulfilled       kept      trace      place constraint\n         0          0          1          -          - Response(\"z\",\"a\")\n",
+        ),
+        (
+            INIT,
+            "\n",
+            Status::Differs,
+            " activated  fulfilled       kept      trace      place constraint\n         1          0          0          1          0 Init(\"a\")\n",
+        ),
+    ];
+    for (model, log, status, want) in cases {
+        let ran = run_check(rt.alloc(), "check m", model, log.as_bytes())?;
+        assert_eq!(rt; ran.status, status);
+        assert_eq!(rt; ran.out.bytes(), want.as_bytes());
+        assert!(rt; ran.err.bytes().is_empty());
+    }
+    Ok(())
+}
+
+const SAME: &[u8] =
+    b"{\"constraints\":[{\"template\":\"Response\",\"parameters\":[[\"a\"],[\"a\"]]}]}";
+
+/// A model is refused before its log is opened, which isn't there.
+#[test]
+fn models_are_refused_first(rt: HostRuntime) -> Result<(), Fail> {
+    let cases: [(&[u8], Status, &str); 3] = [
+        (b"{", Status::BadModel, "minerful: the model is not JSON\n"),
+        (
+            SAME,
+            Status::BadModel,
+            "minerful: same parameter twice, constraint 1\n",
+        ),
+        (INIT, Status::ReadFault, "minerful: read fault\n"),
+    ];
+    for (model, status, line) in cases {
+        let ran = run_check(rt.alloc(), "check m nosuch", model, b"")?;
+        assert_eq!(rt; ran.status, status);
+        assert!(rt; ran.out.bytes().is_empty());
+        assert_eq!(rt; ran.err.bytes(), line.as_bytes());
+    }
+    Ok(())
+}
+
+/// A report is a model that its own log keeps.
+#[test]
+fn reports_are_models(rt: HostRuntime) -> Result<(), Fail> {
+    let report = run_with(rt.alloc(), "mine", b"ab\nab\n", CALM)?;
+    let ran = run_check(rt.alloc(), "check m", report.out.bytes(), b"ab\nab\n")?;
+    let want =
+        " activated  fulfilled       kept      trace      place constraint\n         2          2          2          -          - Init(\"a\")\n         2          2          2          -          - End(\"b\")\n         2          2          2          -          - AtMostOne(\"a\")\n         2          2          2          -          - AtMostOne(\"b\")\n";
+    assert_eq!(rt; ran.status, Status::Done);
+    assert_eq!(rt; ran.out.bytes(), want.as_bytes());
+    Ok(())
+}
+
+/// The summary of a sample has ten lines, and is the same each time.
+#[test]
+fn samples_are_mined(rt: HostRuntime) -> Result<(), Fail> {
+    let first = run_with(rt.alloc(), "sample --seed 7", b"", CALM)?;
+    let second = run_with(rt.alloc(), "sample --seed 7", b"ab\n", CALM)?;
+    assert_eq!(rt; first.status, Status::Done);
+    assert!(rt; first.out.bytes().starts_with(b"seed 7\ntraces 2000\n"));
+    assert_eq!(rt;
+        first.out.bytes().iter().filter(|byte| **byte == 10).count(),
+        10
+    );
+    assert_eq!(rt; first.out.bytes(), second.out.bytes());
+    Ok(())
+}

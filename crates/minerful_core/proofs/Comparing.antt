@@ -19,7 +19,7 @@ use Rattle.minerful_core.specs.Outcome.{Outcome, answers, refuses, is_broken_by,
 use Rattle.minerful_core.specs.Refusing.{MayRefuse}
 use Rattle.minerful_core.specs.Run.{AsksFor, InputFailed}
 use Rattle.minerful_core.proofs.Answering.{told_only}
-use Rattle.minerful_core.proofs.Refusing.{MayRefuse-weaker, told}
+use Rattle.minerful_core.proofs.Refusing.{MayRefuse-weaker}
 
 -- ---- whether some trace breaks some constraint
 

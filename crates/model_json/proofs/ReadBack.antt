@@ -8,8 +8,9 @@ use Rattle.std.proofs.lemmas.Bool.{eq-eqb}
 use Rattle.std.proofs.lemmas.List.{length-map}
 use Rattle.std.proofs.lemmas.List.Elements.{All-nil, All-cons, All-head, All-tail}
 use Rattle.std.proofs.lemmas.Option.{unwrap_or-slice_get}
-use Rattle.serde_json.specs.Data.{Data, string, array}
+use Rattle.serde_json.specs.Data.{Data, string, array, depth}
 use Rattle.serde_json.specs.Find.{as_str, get}
+use Rattle.serde_json.specs.Read.{max_depth}
 use Rattle.serde_json.specs.View.{items_of}
 use Rattle.decl_base.specs.Limits.{standard}
 use Rattle.event_log.specs.Logs.{first_seen, has_name, with_name, place_of}
@@ -23,8 +24,8 @@ use Rattle.template_set.specs.Names.{name_of}
 use Rattle.scoring.specs.declared.scored.Scored.{Scored}
 use Rattle.reduce_model.specs.Sifting.{Sifting}
 use Rattle.reduce_model.specs.declared.decision.Decision.{Decision}
-use Rattle.model_json.specs.Model.{Item, Shape, IsListed, StandOnce, activities, activities_in, each, has_version, is_twice, item_of, item_read, items_read, list_in, listed, model_of, only, put_in, shape_of, tasks_in, texts_in, values_of, within}
-use Rattle.model_json.specs.Report.{activities_of, consistent_report, model_report, name_at, parameter_value, scored_value, scores_report, staying, witnessed_value}
+use Rattle.model_json.specs.Model.{Item, Known, Shape, IsListed, StandOnce, activities, activities_in, each, has_version, is_twice, item_of, item_read, items_read, list_in, listed, model_of, model_of_bytes, only, put_in, shape_of, tasks_in, texts_in, values_of, within}
+use Rattle.model_json.specs.Report.{IsLineOf, activities_of, consistent_report, model_report, name_at, parameter_value, scored_value, scores_report, staying, witnessed_value}
 use Rattle.model_json.proofs.Causes.{goes_on}
 use Rattle.model_json.proofs.Chosen.{All-zip}
 use Rattle.model_json.proofs.Elements.{values_of-items_of}
@@ -256,3 +257,7 @@ model_back names list decisions witnesses example traces events known many =
     (λ p. witnessed_item names p.0 p.1) (beside kept witnesses many)
     (All-zip (λ s. IsWellMadeFor (length names) s.constraint) kept witnesses (with_scores (length names) kept known.made)) known
     (shaped (model_report names list decisions witnesses example traces events) (map value (zip kept witnesses)) names refl refl refl)
+
+-- a line that reads as a value is read as its model
+pub line_back : (value : Data) (text : List ℕ) (model : Known) → IsLineOf value text → depth value ≤ max_depth → model_of value ≡ Ok model → model_of_bytes text ≡ Ok model
+line_back value text model line shallow is = rw (line.2 shallow) is

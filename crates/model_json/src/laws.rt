@@ -7,7 +7,7 @@ ghost use Rattle.reduce_model.specs.Sifting.{Sifting};
 ghost use Rattle.reduce_model.specs.declared.decision.Decision.{Decision as DecisionOf};
 ghost use Rattle.scoring.specs.declared.scored.Scored.{Scored as ScoredOf};
 ghost use Rattle.model_json.specs.Model.{Known, IsListed, IsModel, IsOfModel, listed, model_of, model_of_bytes};
-ghost use Rattle.model_json.specs.Report.{consistent_report, model_report, scores_report, staying};
+ghost use Rattle.model_json.specs.Report.{consistent_report, model_report, scores_report, staying, IsLineOf};
 
 /// A model that is read has names that stand once, well-made constraints, and no more of both than the limits say.
 pub fn models_are_within()
@@ -28,6 +28,19 @@ pub fn reports_read_back()
     ensures model { (names : List (List ℕ)) (list : List ScoredOf) (decisions : List DecisionOf) (witnesses : List (List ℕ)) (example : List ℕ) (traces events : ℕ)
         → IsListed names (staying list decisions) → length witnesses ≡ length (staying list decisions)
         → model_of (model_report names list decisions witnesses example traces events) ≡ Ok (listed names (staying list decisions)) }
+{}
+
+/// The text of a report, read as a model, has its names and its listed constraints again, in order.
+pub fn report_texts_read_back()
+    ensures scores { (names : List (List ℕ)) (list : List ScoredOf) (traces events : ℕ) (text : List ℕ) → IsListed names list
+        → IsLineOf (scores_report names list traces events) text → model_of_bytes text ≡ Ok (listed names list) }
+    ensures consistent { (names : List (List ℕ)) (list : List ScoredOf) (sifting : Sifting) (traces events : ℕ) (text : List ℕ)
+        → IsListed names (staying list sifting.decisions) → IsLineOf (consistent_report names list sifting traces events) text
+        → model_of_bytes text ≡ Ok (listed names (staying list sifting.decisions)) }
+    ensures model { (names : List (List ℕ)) (list : List ScoredOf) (decisions : List DecisionOf) (witnesses : List (List ℕ)) (example : List ℕ) (traces events : ℕ) (text : List ℕ)
+        → IsListed names (staying list decisions) → length witnesses ≡ length (staying list decisions)
+        → IsLineOf (model_report names list decisions witnesses example traces events) text
+        → model_of_bytes text ≡ Ok (listed names (staying list decisions)) }
 {}
 
 /// A report nests no deeper than what is read, so its text reads back as it.

@@ -17,8 +17,8 @@ pub use constraints::trace_value;
 pub use decisions::staying;
 pub use known::KnownModel;
 pub use laws::{
-    models_are_within, refusals_are_of_models, reports_are_shallow, reports_have_no_float,
-    reports_read_back,
+    models_are_within, refusals_are_of_models, report_texts_read_back, reports_are_shallow,
+    reports_have_no_float, reports_read_back,
 };
 pub use reading::read_model;
 pub use report::{consistent_value, report_value, scores_value};

@@ -1,4 +1,7 @@
-use crate::{Inputs, Lines, MemInputs, MemSink, StdInputs, StdSink, read_all, write_all};
+use crate::{
+    Inputs, Lines, MemInputs, MemSink, PlainInputs, PlainSink, StdInputs, StdSink, read_all,
+    write_all,
+};
 use decl_base::{Name, Refusal};
 use std::test::Fail;
 
@@ -79,6 +82,30 @@ fn faults(rt: HostRuntime) -> Result<(), Fail> {
     let mut sink = MemSink::new(alloc, 9, 2, vec![in alloc; 2]?)?;
     assert!(rt; write_all(&mut sink, b"abc").is_err());
     assert_eq!(rt; sink.bytes(), b"ab".as_slice());
+    Ok(())
+}
+
+#[test]
+fn plain_inputs_read_back(rt: HostRuntime) -> Result<(), Fail> {
+    let alloc = rt.alloc();
+    let mut inputs = PlainInputs::new(alloc, 1);
+    inputs.put(Name::of(alloc, "log")?, b"ab".to_vec(alloc)?)?;
+    inputs.put(Name::of(alloc, "log")?, b"cd\n".to_vec(alloc)?)?;
+    for (name, want) in [("log", "cd\n"), ("other", ""), ("log", "cd\n")] {
+        inputs.open(Name::of(alloc, name)?)?;
+        let bytes = read_all(alloc, &mut inputs, 3)?;
+        assert_eq!(rt; bytes.as_slice(), want.as_bytes());
+    }
+    Ok(())
+}
+
+#[test]
+fn plain_sink_takes_its_room(rt: HostRuntime) -> Result<(), Fail> {
+    let alloc = rt.alloc();
+    let text = b"{\"constraints\":[],\"events\":0}";
+    let mut sink = PlainSink::new(alloc, text.len() as u64, 2)?;
+    assert!(rt; write_all(&mut sink, text).is_ok());
+    assert_eq!(rt; sink.bytes(), text.as_slice());
     Ok(())
 }
 

@@ -8,7 +8,7 @@ mod commands;
 #[cfg(test)]
 mod faults;
 #[cfg(test)]
-mod hostile;
+mod limits;
 #[cfg(test)]
 mod reports;
 #[cfg(test)]

@@ -1,4 +1,5 @@
-//! Files at the limits, and files that are at fault. What stands on the two sinks was worked out by hand.
+//! Logs and models that just meet a limit, and those that are beyond it. What stands on the two sinks was worked out by
+//! hand.
 use crate::commands::run_check;
 use crate::tests::{CALM, Outside, run_with};
 use decl_base::Status;
@@ -27,7 +28,7 @@ fn repeated(
     Ok(bytes)
 }
 
-/// So many different characters.
+/// So many different characters, from U+4E00 on.
 fn characters(alloc: Global, count: u32) -> Result<String, Fail> {
     let mut text = String::new(alloc);
     for code in (0x4E00..0x9FFF).take(count as usize) {
@@ -99,7 +100,8 @@ fn names_at_the_limits(rt: HostRuntime) -> Result<(), Fail> {
 const TWICE: &str =
     "{\"constraints\":[{\"template\":\"Participation\",\"parameters\":[[\"a\"]]},{\"template\":\"Participation\",\"parameters\":[[\"a\"]]}]";
 
-/// Models with so many spaces before the last brace. The second has just as many bytes as are read.
+/// Models with so many spaces before the last brace: one that names a constraint twice, one of as many bytes as are
+/// read, and one of a byte more.
 #[test]
 fn models_at_the_limits(rt: HostRuntime) -> Result<(), Fail> {
     let cases: [(&str, u32, Status, &str, &str); 3] = [

@@ -6,14 +6,14 @@ use std::alloc::Global;
 use std::test::Fail;
 
 /// Runs the words with this model as the file `m` and this log as standard input.
-fn run_check(alloc: Global, words: &str, model: &[u8], log: &[u8]) -> Result<Ran, Fail> {
+pub(crate) fn run_check(alloc: Global, words: &str, model: &[u8], log: &[u8]) -> Result<Ran, Fail> {
     let mut inputs = MemInputs::new(alloc, CALM.piece, Vec::new(alloc));
     inputs.put(Name::of(alloc, "m")?, model.to_vec(alloc)?)?;
     inputs.put(Name::of(alloc, "-")?, log.to_vec(alloc)?)?;
     run_on(alloc, words, &mut inputs, CALM)
 }
 
-const RESPONSE: &[u8] =
+pub(crate) const RESPONSE: &[u8] =
     b"{\"constraints\":[{\"template\":\"Response\",\"parameters\":[[\"a\"],[\"b\"]],\"support\":0.98}]}";
 
 const RESPONSE_OF_Z: &[u8] =

@@ -6,6 +6,10 @@ mod automata;
 #[cfg(test)]
 mod commands;
 #[cfg(test)]
+mod faults;
+#[cfg(test)]
+mod limits;
+#[cfg(test)]
 mod reports;
 #[cfg(test)]
 mod tests;

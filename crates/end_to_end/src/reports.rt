@@ -72,7 +72,7 @@ fn twenty_stay(rt: HostRuntime) -> Result<(), Fail> {
 }
 
 /// Two cases that are told in turns, with a byte order mark and a quoted name.
-const CASES: &str =
+pub(crate) const CASES: &str =
     "\u{feff}case,activity,time\n1,\"Register, new\",2024-01-01T09:00:00\n2,\"Register, new\",2024-01-01T09:05:00\n1,Check,2024-01-01T10:00:00\n1,Pay,2024-01-01T11:00:00\n2,Check,2024-01-01T12:00:00\n2,Pay,2024-01-01T13:00:00\n";
 
 const C: &str = "[[\"Check\"]]";

@@ -3,7 +3,7 @@ use crate::commands::RESPONSE;
 use crate::reports::CASES;
 use crate::tests::{CALM, Outside, Ran, run_on, run_with};
 use decl_base::{Name, Status};
-use decl_outside::MemInputs;
+use decl_outside::{MemInputs, PlainInputs, PlainSink, write_all};
 use std::alloc::Global;
 use std::process::Abort;
 use std::test::Fail;
@@ -130,5 +130,24 @@ fn no_words_and_no_standard_error(rt: HostRuntime) -> Result<(), Fail> {
     assert_eq!(rt; ran.status, Status::Usage);
     assert!(rt; ran.out.bytes().is_empty());
     assert!(rt; ran.err.bytes().is_empty());
+    Ok(())
+}
+
+/// Over inputs that never fail a log comes to the same, and its report fits a sink of just its room.
+#[test]
+fn nothing_fails(rt: HostRuntime) -> Result<(), Fail> {
+    let alloc = rt.alloc();
+    for log in [b"ab\nab\n".as_slice(), b"a\n".as_slice()] {
+        let want = run_with(alloc, "mine", log, CALM)?;
+        let mut inputs = PlainInputs::new(alloc, 1);
+        inputs.put(Name::of(alloc, "-")?, log.to_vec(alloc)?)?;
+        let ran = run_on(alloc, "mine", &mut inputs, CALM)?;
+        assert_eq!(rt; ran.status, Status::Done);
+        assert_eq!(rt; ran.out.bytes(), want.out.bytes());
+        let text = ran.out.bytes();
+        let mut sink = PlainSink::new(alloc, text.len() as u64, PER_WRITE)?;
+        assert!(rt; write_all(&mut sink, text).is_ok());
+        assert_eq!(rt; sink.bytes(), text);
+    }
     Ok(())
 }

@@ -3,7 +3,7 @@
 ghost use Rattle.std.specs.Prelude.{◌<◌};
 
 use decl_base::{Name, Status};
-use decl_outside::{MemInputs, MemSink};
+use decl_outside::{Inputs, MemInputs, MemSink};
 use minerful_core::run;
 use std::alloc::Global;
 use std::str::from_utf8;
@@ -57,10 +57,10 @@ pub(crate) fn run_with(
 }
 
 /// Runs the words, parted by spaces, on these inputs.
-pub(crate) fn run_on(
+pub(crate) fn run_on<I: Inputs>(
     alloc: Global,
     words: &str,
-    inputs: &mut MemInputs,
+    inputs: &mut I,
     outside: Outside,
 ) -> Result<Ran, Fail>
     requires { 0 < outside.piece }

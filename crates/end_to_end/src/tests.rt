@@ -173,7 +173,7 @@ fn refusals_are_told(rt: HostRuntime) -> Result<(), Fail> {
         ),
         (
             "kb --format csv",
-            b"case,activity\n1,a\n2\n",
+            b"case,activity\n1,a,x\n1\n",
             Status::BadLog,
             "minerful: record 3 is too short\n",
         ),

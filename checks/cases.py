@@ -10,6 +10,7 @@ from fractions import Fraction
 from defined.automata import told_apart
 from defined.reduction import Searches, built_lists, reduced
 from defined.scores import candidates
+from defined.templates import TEMPLATES
 from defined.words import COMMANDS
 
 STAGES = ["scores", "consistent", "model"]
@@ -106,13 +107,14 @@ def random_logs(chance):
         words = ["mine", "--stage", stage, *random_thresholds(chance)]
         yield Case("string logs at random", words, text)
         yield Case("CSV logs at random, ordered by number", words + BY_NUMBER, table)
+        yield Case("the second repertoire", [*words, "--repertoire=2", f"--out={chance.choice(['json', 'table'])}"], text)
 
 
 def needed_states(log, thresholds, stage):
     """For each phase, the most traces that one of its lists tells apart."""
     names = sorted({name for trace in log for name in trace})
     ranked = [tuple(names.index(name) for name in trace) for trace in log]
-    scored = candidates(ranked, len(names), thresholds)
+    scored = candidates(ranked, len(names), "1", thresholds)
     model = reduced([constraint for constraint, _ in scored], stage, Searches(len(names), 100), sys.maxsize)
     most = Counter()
     for phase, constraints in built_lists(model, stage):
@@ -128,11 +130,21 @@ def at_the_limit(log, thresholds):
         for states in sorted({max(1, number - less) for number in most.values() for less in [0, 1]}):
             words = ["mine", "--stage", stage, "--max-states", str(states), *options]
             yield Case("the limit on states", words, as_lines(log))
+            yield Case("beyond the limit on states", [*words, "--on-limit=keep"], as_lines(log))
 
 
 def few_states(chance):
     thresholds = [Fraction(chance.randint(0, most), 20) for most in [19, 5, 0]]
     yield from at_the_limit(random_log(chance), thresholds)
+
+
+def few_states_kept(chance):
+    """Few enough states that lists of all steps are wide."""
+    words = ["--on-limit=keep", "--max-states", str(chance.randint(1, 12)), *random_thresholds(chance)]
+    words += ["--repertoire", chance.choice("12"), "--out", chance.choice(["json", "table"])]
+    text = as_lines(random_log(chance))
+    for stage in STAGES:
+        yield Case("beyond the limit on states", ["mine", "--stage", stage, *words], text)
 
 
 def states_of_each_phase():
@@ -344,23 +356,25 @@ WORDS = {
     "traces": ["0", "1", "20", "0001048575", "1048576", "", "1e3", "٣"],
     "length": ["1", "16", "1000", "0", "1001", " 1"],
     "letters": ["1", "26", "0", "27", "a"],
+    "repertoire": ["1", "2", "3", "0", "", "01", "second"],
+    "on-limit": ["stop", "keep", "Keep", ""],
     "nosuch": ["1"],
     "supports": ["1"],
     "suppor": ["1"],
     "log": ["log.txt"],
     "help": [""],
 }
-KNOWN = list(WORDS)[:15]
+KNOWN = list(WORDS)[:17]
 OTHERS = ["-", "--", "log.txt", "-x", "-5", "--=x", "---support", "mine", "kb", "", "-h", "--version", "--help", "-Vx"]
 OTHERS += ["model.json", "check"]
 
 
 def random_words(chance, known):
     """A few options, mostly `known` ones with a value each, and other words."""
-    command = chance.choice(["mine", "mine", "mine", "kb", "check", "gen", "sample"])
-    words = [command] + ["model.json"] * (command == "check" and known)
+    command = chance.choice(["mine", "mine", "mine", "kb", "check", "gen", "sample", "regex"])
+    words = [command] + {"check": ["model.json"], "regex": ["Init"]}.get(command, []) * known
     own = [name for name in KNOWN if name in COMMANDS[command][0]]
-    for _ in range(chance.randint(0, 4)):
+    for _ in range(chance.randint(0, 4) if own or not known else 0):
         name = chance.choice(own if known else list(WORDS))
         value = chance.choice(WORDS[name])
         words += chance.choice([[f"--{name}", value], [f"--{name}={value}"]])
@@ -380,15 +394,16 @@ def words_at_random(chance):
 
 def words_by_hand():
     lists = [[], [""], ["Mine"], ["mine "], ["help"], ["--help"], ["-"], ["--", "mine"], ["kb", "kb"], ["verify"]]
-    heads = [["mine"], ["kb"], ["check", "model.json"], ["gen"], ["sample"]]
+    heads = [["mine"], ["kb"], ["check", "model.json"], ["gen"], ["sample"], ["regex", "Init"]]
     for option in KNOWN:
         lists += [[*head, f"--{option}={value}"] for head in heads for value in WORDS[option]]
         for head in [["mine"]] if option in COMMANDS["mine"][0] else [["gen"]]:
             lists += [[*head, f"--{option}", value] for value in WORDS[option]]
             lists += [[*head, f"--{option}"], [*head, f"--{option}", "--", "x"], [*head, f"--{option}=1", f"--{option}=1"]]
     lists += [["mine", "--support", "x", "--format", "x"], ["mine", "--out=x", "--max-states=0", "--interest=2"]]
+    lists += [["mine", "--on-limit=x", "--repertoire=x"], ["mine", "--repertoire=x", "--out=x"]]
     lists += [["mine", "--", "--", "--"], ["mine", "--"], ["mine", "-", "-"], ["mine", "--support=1", "-", "--stage=scores"]]
-    lists += model_words() + generator_words()
+    lists += model_words() + generator_words() + expression_words()
     files = {"model.json": A_MODEL, "log.txt": b"ba\n", "-": b"x\n"}
     return [Case("words by hand", words, b"ab\nb\n", files) for words in lists]
 
@@ -404,6 +419,19 @@ def model_words():
         lists += [["check", *places], ["check", "--", *places], ["check", *places, "x"], ["check", *places, "--format=xes"]]
     lists += [["check", "", ""], ["check", "./-", "-"], ["check", "-", "--", "./-"]]
     return lists + [["check", "-", "--order-as=x", "--format=x"]]
+
+
+def expression_words():
+    """Each expression, words of each template, names and words that are none, and more than one fault."""
+    lists = [["regex"], ["regex", "--"], ["regex", "-"], ["regex", "", ""], ["regex", "init"], ["regex", "Init", "a", "a"]]
+    for name in TEMPLATES:
+        lists += [["regex", name], ["regex", name, ""], ["regex", "--", name, "axa"]]
+        lists += [["regex", name, word] for word in ["a", "aa", "ba", "xab", "aabb", "bxaxbx", "a" * 9, "xa" * 10]]
+    lists += [["regex", name] for name in ["Exactly0", "Exactly10", "AtLeast", "AtMost-1", "Exactly 1", "Init ", "exactly1"]]
+    for name in ["Init", "Response", "Respond"]:
+        lists += [["regex", name, word] for word in ["A", "c", "a b", "é", "-", "a" * 64, "a" * 65, "x" * 64 + "c"]]
+        lists += [["regex", name, "-a"], ["regex", name, "--", "-a"], ["regex", name, "a", "--out=json"]]
+    return lists
 
 
 def generator_words():
@@ -462,6 +490,7 @@ def limits(chance):
 EACH_SEED = [
     random_logs,
     few_states,
+    few_states_kept,
     default_thresholds,
     empty_traces,
     hard_names,

@@ -7,7 +7,7 @@ from cases import A_MODEL, BY_NUMBER, REDUCED, STAGES, Case
 from cases import as_csv, as_lines, characters, hard_name, random_log, random_thresholds
 from defined.generator import generated
 from defined.outcome import Definitions, Input
-from defined.templates import EXISTENCE, TEMPLATES
+from defined.templates import EXISTENCE, FIRST_REPERTOIRE, TEMPLATES
 
 MODEL = "model.json"
 CHECK = ["check", MODEL]
@@ -24,8 +24,8 @@ def item(template, *names):
     return {"template": template, "parameters": [[name] for name in names]}
 
 
-def random_item(chance, names):
-    template = chance.choice(TEMPLATES)
+def random_item(chance, names, templates):
+    template = chance.choice(templates)
     return item(template, *chance.sample(names, 1 if template in EXISTENCE else 2))
 
 
@@ -49,14 +49,17 @@ PASSED = [
 
 def random_model(chance, names):
     """A few constraints, some twice, some in both orders; with `tasks` or not; with members that are read past."""
-    items = [random_item(chance, names) for _ in range(chance.randint(0, 6))]
+    templates = chance.choice([FIRST_REPERTOIRE, TEMPLATES])
+    items = [random_item(chance, names, templates) for _ in range(chance.randint(0, 6))]
     items += chance.choices(items, k=chance.randint(0, 2)) if items else []
     items += [turned(each) for each in items if chance.random() < 0.2]
     value = {"constraints": [shuffled(chance, each | dict(chance.sample(PASSED, chance.randint(0, 2)))) for each in items]}
     if chance.random() < 0.5:
         value["tasks"] = chance.choices([*names, "unused"], k=chance.randint(0, 5))
-    if chance.random() < 0.3:
-        value["version"] = chance.choice([1, 1.0, 2.5, "2", None, [2]])
+    if templates is TEMPLATES and chance.random() < 0.9:
+        value["version"] = 2
+    elif chance.random() < 0.3:
+        value["version"] = chance.choice([1, 1.0, 2.0, 2.5, "2", None, [2]])
     spaces = {"indent": chance.choice([None, 1, "\t"]), "ensure_ascii": chance.random() < 0.5}
     return json.dumps(shuffled(chance, value), **spaces).encode()
 
@@ -73,9 +76,10 @@ def random_checks(chance):
 
 def each_template(chance):
     """All templates of two names, each in both orders, on one log."""
-    items = [item(template, *([a] if template in EXISTENCE else [a, b])) for template in TEMPLATES for a, b in ["ab", "ba"]]
-    model = json.dumps({"constraints": items}).encode()
-    yield on_model("checks of each template", model, as_lines(random_log(chance, "abc")))
+    for templates, version in [(FIRST_REPERTOIRE, {}), (TEMPLATES, {"version": 2})]:
+        items = [item(template, *([a] if template in EXISTENCE else [a, b])) for template in templates for a, b in ["ab", "ba"]]
+        model = json.dumps({"constraints": items, **version}).encode()
+        yield on_model("checks of each template", model, as_lines(random_log(chance, "abc")))
 
 
 def hard_names_in_models(chance):
@@ -90,7 +94,8 @@ def reports_checked(chance):
     text, other = as_lines(random_log(chance)), as_lines(random_log(chance, "abxy"))
     thresholds = random_thresholds(chance)
     for stage in STAGES:
-        report = Definitions(100).outcome(["mine", "--stage", stage, *thresholds], lambda name: Input(text)).out
+        words = ["mine", "--stage", stage, f"--repertoire={chance.choice('12')}", *thresholds]
+        report = Definitions(100).outcome(words, lambda name: Input(text)).out
         yield on_model("reports checked against their own log", report, text)
         yield on_model("reports checked against another log", report, other)
 
@@ -146,7 +151,7 @@ SHAPES = [
     r'{"constraint\u0073":[]}', r'{"constraints\u0000":[]}',
 ]
 VERSIONS = [
-    "1", "2", "0", "-1", "1.0", "2.0", "-0", "1e0", "18446744073709551615", "18446744073709551616",
+    "1", "2", "3", "0", "-1", "1.0", "2.0", "-0", "1e0", "18446744073709551615", "18446744073709551616",
     "-9223372036854775808", "-9223372036854775809", '"2"', "null", "true", "[2]", '{"a":2}', '1,"version":2',
     '2,"version":1', '2,"version":"1"',
 ]
@@ -160,7 +165,7 @@ def shapes():
     texts = SHAPES + [passed("[]").replace('"x":[]', f'"version":{text}') for text in VERSIONS]
     texts += [passed("[]").replace('"x":[]', f'"tasks":{text}') for text in TASKS]
     # The whole is tried before each constraint, and the shape before what stands in it.
-    texts += ['{"constraints":[0],"version":2}', '{"tasks":7,"constraints":[0]}', '{"constraints":[0],"tasks":["a"]}']
+    texts += ['{"constraints":[0],"version":3}', '{"tasks":7,"constraints":[0]}', '{"constraints":[0],"tasks":["a"]}']
     return [on_model("models of another shape", text.encode()) for text in texts]
 
 
@@ -324,7 +329,7 @@ def model_limits():
     for count in [65_536, 65_537]:
         yield on_model("limits: constraints of a model", many(count, good))
         yield on_model("limits: constraints of a model", many(count, "0"))
-    yield on_model("limits: constraints of a model", many(65_537, "0").replace(b"{", b'{"version":2,', 1))
+    yield on_model("limits: constraints of a model", many(65_537, "0").replace(b"{", b'{"version":3,', 1))
     yield from names_of_models()
     # The log of a check is kept, and read by itself.
     line = b"a" * 1_048_576

@@ -8,11 +8,13 @@ import functools
 import itertools
 from dataclasses import dataclass
 
-from defined.templates import EXISTENCE, keeps
+from defined.templates import COUNTED, EXISTENCE, NUMBERS, keeps
 
 # The two activities of a template, and any other one.
 FIRST, SECOND, OTHER = range(3)
 CONTINUATIONS = [w for length in range(5) for w in itertools.product(range(3), repeat=length)]
+# A counted template tells apart how many more of its activity there may be.
+COUNTS = [(FIRST,) * length for length in range(max(NUMBERS) + 2)]
 
 
 @dataclass(frozen=True)
@@ -43,16 +45,17 @@ def breadth_first(start, symbols, step, accepts):
 def table(template):
     """The least automaton of a template over First, Second, Other. Words are told apart by continuations."""
     constraint = template, (FIRST,) if template in EXISTENCE else (FIRST, SECOND)
+    continuations, most = (COUNTS, len(COUNTS)) if template in COUNTED else (CONTINUATIONS, 5)
     words = {}
 
     def row(word):
-        found = tuple(keeps(constraint, word + after) for after in CONTINUATIONS)
+        found = tuple(keeps(constraint, word + after) for after in continuations)
         words.setdefault(found, word)
         return found
 
     found = breadth_first(row(()), range(3), lambda state, symbol: row(words[state] + (symbol,)), lambda state: state[0])
     # Continuations of 4 events tell all apart where there are 5 classes at most.
-    assert len(found.steps) <= 5, template
+    assert len(found.steps) <= most, template
     return found
 
 

@@ -1,12 +1,14 @@
 """What a run comes to, for its words and what its inputs hold."""
 
+import re
 from dataclasses import dataclass, field
 
 from defined import texts
+from defined.expressions import EXPRESSIONS
 from defined.generator import SAMPLE, generated
 from defined.logs import csv_log, string_log
 from defined.models import check, model_of
-from defined.reduction import Searches, reduced, without
+from defined.reduction import Searches, reduced, reduced_within, without
 from defined.refusals import Refused
 from defined.scores import candidates
 from defined.words import settings
@@ -69,6 +71,8 @@ class Definitions:
                 return DONE, generated(*(given[name] for name in ["seed", "traces", "length", "letters"]))
             case "sample":
                 return DONE, self.sampled(given)
+            case "regex":
+                return self.expressed(given["model"], given["word"])
 
     # Inputs.
 
@@ -108,14 +112,18 @@ class Definitions:
             told = {"dropped": dropped, "example": searches.least_trace(model.kept)}
         if given["stage"] == "model":
             for each in listed:
-                each.witness = searches.least_trace(without(model.kept, each.constraint), each.constraint)
+                if each.constraint in model.untested:
+                    each.untested = True
+                else:
+                    each.witness = searches.least_trace(without(model.kept, each.constraint), each.constraint)
         if given["out"] == "table":
             return texts.model_table(names, listed, given["stage"] == "model")
-        return texts.report(names, log, listed, model, **told)
+        return texts.report(names, log, listed, model, given["repertoire"], **told)
 
     def model_of(self, given, names, log):
         """The candidates with their scores, and, but for stage `scores`, what becomes of them."""
-        scored = candidates(log, len(names), [given[name] for name in ["support", "confidence", "interest"]])
+        thresholds = [given[name] for name in ["support", "confidence", "interest"]]
+        scored = candidates(log, len(names), given["repertoire"], thresholds)
         if len(scored) > CANDIDATES:
             raise Refused("Candidates", len(scored))
         if given["stage"] == "scores":
@@ -123,7 +131,8 @@ class Definitions:
         searches = Searches(len(names), self.traces_tried)
         self.counted.append(searches)
         constraints = [constraint for constraint, _ in scored]
-        return scored, reduced(constraints, given["stage"], searches, given["max-states"]), searches
+        reduce = reduced_within if given["on-limit"] == "keep" else reduced
+        return scored, reduce(constraints, given["stage"], searches, given["max-states"]), searches
 
     def checked(self, given, read):
         """Differs where some trace breaks some constraint."""
@@ -138,3 +147,9 @@ class Definitions:
             scored, model, _ = self.model_of(given, names, log)
             self.samples[given["seed"]] = texts.summary(given["seed"], names, log, scored, model)
         return self.samples[given["seed"]]
+
+    def expressed(self, template, word):
+        """The expression; or whether it matches the word, and Differs where it doesn't."""
+        if word is None:
+            return DONE, f"{EXPRESSIONS[template]}\n".encode()
+        return (DONE, b"yes\n") if re.fullmatch(EXPRESSIONS[template], word) else (DIFFERS, b"no\n")

@@ -82,6 +82,8 @@ class Model:
     above: dict = field(default_factory=dict)
     # Each list that the second pass asks about, in the order of the questions.
     asked: list = field(default_factory=list)
+    # Those of the kept ones of which a list is wide that has to be asked about.
+    untested: set = field(default_factory=set)
 
 
 def sift(model, candidates, searches):
@@ -159,4 +161,75 @@ def reduced(candidates, stage, searches, states):
     for phase, constraints in built_lists(model, stage):
         if told_apart(searches.size, constraints) > states:
             raise Refused("States", phase, len(constraints))
+    return model
+
+
+# The mode that goes on where a list is wide: where it tells more traces apart than are set.
+
+
+@dataclass
+class Limit:
+    """So many traces may be told apart by a list over so many activities."""
+
+    size: int
+    states: int
+
+    def is_wide(self, constraints):
+        return told_apart(self.size, constraints) > self.states
+
+    def is_closed(self, constraints):
+        """It or a prefix of it is wide."""
+        return any(map(self.is_wide, with_all_prefixes(constraints)))
+
+
+def sift_within(model, candidates, searches, limit):
+    """What conflicts goes as ever; and what would make the list of those kept before it wide."""
+    for constraint in candidates:
+        more = model.conflict_free + [constraint]
+        if searches.least_trace(more) is None:
+            model.why[constraint] = "conflict"
+        elif limit.is_wide(more):
+            model.why[constraint] = "beyond"
+        else:
+            model.conflict_free.append(constraint)
+
+
+def first_pass_within(model, searches, limit):
+    """A constraint goes where the basis implies it. What stays joins the basis unless that makes it wide."""
+    basis = []
+    for constraint in model.unpruned:
+        if searches.implies(basis, constraint):
+            model.why[constraint] = "first-pass"
+            continue
+        model.after_first_pass.append(constraint)
+        if not limit.is_wide(basis + [constraint]):
+            basis.append(constraint)
+
+
+def second_pass_within(model, searches, limit):
+    """From last to first. A constraint stays where its list is closed."""
+    behind = []
+    for place in reversed(range(len(model.after_first_pass))):
+        constraint = model.after_first_pass[place]
+        others = model.after_first_pass[:place] + behind
+        if limit.is_closed(others):
+            model.untested.add(constraint)
+        elif searches.implies(others, constraint):
+            model.why[constraint] = "second-pass"
+            continue
+        behind = [constraint] + behind
+    model.kept = behind
+    model.untested |= {each for each in behind if limit.is_closed(without(behind, each))}
+
+
+def reduced_within(candidates, stage, searches, states):
+    """The model of a stage, whatever is wide."""
+    model, limit = Model(), Limit(searches.size, states)
+    sift_within(model, candidates, searches, limit)
+    if stage == "model":
+        prune(model)
+        first_pass_within(model, searches, limit)
+        second_pass_within(model, searches, limit)
+    else:
+        model.kept = model.conflict_free
     return model

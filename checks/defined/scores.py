@@ -3,7 +3,7 @@
 import itertools
 from fractions import Fraction
 
-from defined.templates import EXISTENCE, ONE_ORDER, PRECEDENCES, RELATION, TEMPLATES, activated
+from defined.templates import BY_SECOND, CANDIDATES, EXISTENCE, ONE_ORDER, ONE_SIDE, TEMPLATES, activated
 
 
 def traces_with(log, *activities):
@@ -16,9 +16,9 @@ def numbers_for_traces(constraint, log):
     if template in EXISTENCE:
         return len(log), traces_with(log, *activities)
     a, b = activities
-    if template in PRECEDENCES:
+    if template in BY_SECOND:
         return traces_with(log, b), traces_with(log, a)
-    if template in RELATION:
+    if template in ONE_SIDE:
         return traces_with(log, a), traces_with(log, b)
     return traces_with(log, a, b), min(traces_with(log, a), traces_with(log, b))
 
@@ -32,9 +32,9 @@ def scores(constraint, log):
     return support, confidence, confidence * Fraction(p, len(log))
 
 
-def constraints_over(size):
-    """Each constraint over so many activities; of two orders that say the same, the one with the smaller rank first."""
-    for template in TEMPLATES:
+def constraints_over(size, repertoire):
+    """Each constraint of the repertoire over so many activities; of two orders that say the same, the one with the smaller rank first."""
+    for template in CANDIDATES[repertoire]:
         if template in EXISTENCE:
             yield from ((template, (a,)) for a in range(size))
         else:
@@ -49,10 +49,10 @@ def priority(constraint, scored):
     return [-score for score in scored], TEMPLATES.index(template), activities
 
 
-def candidates(log, size, thresholds):
+def candidates(log, size, repertoire, thresholds):
     """The constraints that reach the thresholds, each with its scores, in the order of priority."""
     reached = {}
-    for constraint in constraints_over(size):
+    for constraint in constraints_over(size, repertoire):
         scored = scores(constraint, log)
         if all(score >= least for score, least in zip(scored, thresholds)):
             reached[constraint] = scored

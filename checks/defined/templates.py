@@ -1,14 +1,33 @@
 """The repertoire: which places of a trace are activated, which are fulfilled, and which constraint is above which."""
 
-EXISTENCE = ["Init", "End", "Participation", "AtMostOne"]
+# The numbers that a counted template may have.
+NUMBERS = range(1, 10)
+
+# A counted template is a word and a number, and asks this of how often its activity stands in a trace.
+COUNTED = {
+    **{f"Exactly{n}": lambda count, n=n: count == n for n in NUMBERS},
+    **{f"AtLeast{n}": lambda count, n=n: count >= n for n in reversed(NUMBERS)},
+    **{f"AtMost{n}": lambda count, n=n: count <= n for n in NUMBERS},
+}
+
+PLAIN_EXISTENCE = ["Init", "End", "Participation", "AtMostOne"]
 MUTUAL = ["ChainSuccession", "AlternateSuccession", "Succession", "CoExistence"]
 RESPONSES = ["ChainResponse", "AlternateResponse", "Response"]
 PRECEDENCES = ["ChainPrecedence", "AlternatePrecedence", "Precedence"]
-RELATION = RESPONSES + PRECEDENCES + ["RespondedExistence"]
 NEGATIVE = ["NotCoExistence", "NotSuccession", "NotChainSuccession"]
+ONE_SIDED = ["NotRespondedExistence", "NotResponse", "NotPrecedence", "NotChainResponse", "NotChainPrecedence"]
 
 # In the order of their numbers, from 1.
-TEMPLATES = EXISTENCE + MUTUAL + RELATION + NEGATIVE
+FIRST_REPERTOIRE = [*PLAIN_EXISTENCE, *MUTUAL, *RESPONSES, *PRECEDENCES, "RespondedExistence", *NEGATIVE]
+TEMPLATES = [*FIRST_REPERTOIRE, *COUNTED, *ONE_SIDED]
+
+EXISTENCE = [*PLAIN_EXISTENCE, *COUNTED]
+# Activated by their second activity, of which the first is the target; the other ones of one side by their first.
+BY_SECOND = [*PRECEDENCES, "NotPrecedence", "NotChainPrecedence"]
+ONE_SIDE = [*RESPONSES, *PRECEDENCES, "RespondedExistence", *ONE_SIDED]
+
+# The templates of the candidates. Two counted ones have another name in the first repertoire.
+CANDIDATES = {"1": FIRST_REPERTOIRE, "2": [name for name in TEMPLATES if name not in ("AtLeast1", "AtMost1")]}
 
 # The same in both orders of their activities.
 ONE_ORDER = ["CoExistence", "NotCoExistence"]
@@ -20,6 +39,7 @@ WHOLE = {
     "End": lambda trace, a: trace[-1:] == (a,),
     "Participation": lambda trace, a: a in trace,
     "AtMostOne": lambda trace, a: trace.count(a) <= 1,
+    **{name: lambda trace, a, asks=asks: asks(trace.count(a)) for name, asks in COUNTED.items()},
 }
 
 # What an event asks. It stands at place i, and `other` is the other activity of the constraint.
@@ -77,6 +97,11 @@ ASKS = {
     "NotCoExistence": (none(is_somewhere), none(is_somewhere)),
     "NotSuccession": (none(is_later), none(is_earlier)),
     "NotChainSuccession": (none(next_is), none(previous_is)),
+    "NotRespondedExistence": (none(is_somewhere), None),
+    "NotResponse": (none(is_later), None),
+    "NotPrecedence": (None, none(is_earlier)),
+    "NotChainResponse": (none(next_is), None),
+    "NotChainPrecedence": (None, none(previous_is)),
 }
 
 
@@ -114,8 +139,18 @@ BELOW = {
     "ChainPrecedence": ["AlternatePrecedence ab"],
     "AlternatePrecedence": ["Precedence ab"],
     "Precedence": ["RespondedExistence ba"],
-    "NotCoExistence": ["NotSuccession ab", "NotSuccession ba"],
-    "NotSuccession": ["NotChainSuccession ab"],
+    "NotCoExistence": ["NotSuccession ab", "NotSuccession ba", "NotRespondedExistence ab", "NotRespondedExistence ba"],
+    "NotSuccession": ["NotChainSuccession ab", "NotResponse ab", "NotPrecedence ab"],
+    "NotChainSuccession": ["NotChainResponse ab", "NotChainPrecedence ab"],
+    "NotRespondedExistence": ["NotResponse ab", "NotPrecedence ba"],
+    "NotResponse": ["NotChainResponse ab"],
+    "NotPrecedence": ["NotChainPrecedence ab"],
+    **{f"Exactly{n}": [f"AtLeast{n} a", f"AtMost{n} a"] for n in NUMBERS},
+    **{f"AtLeast{n}": [f"AtLeast{n - 1} a"] for n in NUMBERS if n > 1},
+    "AtLeast1": ["Participation a"],
+    "AtMost1": ["AtMostOne a"],
+    "AtMostOne": ["AtMost2 a"],
+    **{f"AtMost{n}": [f"AtMost{n + 1} a"] for n in range(2, 9)},
 }
 
 

@@ -28,15 +28,18 @@ def scored_value(constraint, scored, names):
 
 @dataclass
 class Listed:
-    """A constraint that a report lists: with its scores and, at stage `model`, its witness."""
+    """A constraint that a report lists: with its scores and, at stage `model`, its witness, or that it wasn't tested."""
 
     constraint: tuple
     scores: tuple
     witness: tuple | None = None
+    untested: bool = False
 
 
 def listed_value(each, names):
     value = scored_value(each.constraint, each.scores, names)
+    if each.untested:
+        value["untested"] = True
     return value if each.witness is None else value | {"witness": named(each.witness, names)}
 
 
@@ -51,10 +54,12 @@ def named(trace, names):
     return [names[rank] for rank in trace]
 
 
-def report(names, log, listed, model, dropped=None, example=None):
-    """`dropped` and `example` aren't there at stage `scores`."""
+def report(names, log, listed, model, repertoire, dropped=None, example=None):
+    """`dropped` and `example` aren't there at stage `scores`, and `version` only for the second repertoire."""
     constraints = [listed_value(each, names) for each in listed]
     value = {"constraints": constraints, "events": sum(map(len, log)), "tasks": names, "traces": len(log)}
+    if repertoire == "2":
+        value["version"] = 2
     if model is not None:
         value["dropped"] = [dropped_value(constraint, scored, model, names) for constraint, scored in dropped]
         value["example"] = named(example, names)
@@ -78,7 +83,7 @@ def model_table(names, listed, with_witnesses):
     for each in listed:
         rest = constraint_text(each.constraint, names)
         if with_witnesses:
-            rest += " " + quoted(named(each.witness, names))
+            rest += " " + ("-" if each.untested else quoted(named(each.witness, names)))
         text += columns(12, [f"{score.numerator}/{score.denominator}" for score in each.scores], rest)
     return text.encode()
 

@@ -5,23 +5,33 @@ from fractions import Fraction
 
 from defined.logs import EVENTS, TRACES
 from defined.refusals import Refused
+from defined.templates import EXISTENCE, TEMPLATES
 
 LOG_OPTIONS = ["format", "case-column", "activity-column", "order-column", "order-as"]
-MINE_OPTIONS = LOG_OPTIONS + ["support", "confidence", "interest", "max-states", "stage", "out"]
+REPORT_OPTIONS = ["support", "confidence", "interest", "max-states", "stage", "out"]
 GEN_OPTIONS = ["seed", "traces", "length", "letters"]
+LATER_OPTIONS = ["repertoire", "on-limit"]
 
 # Of each command its options, and what it takes by its place.
 COMMANDS = {
-    "mine": (MINE_OPTIONS, ["log"]),
+    "mine": (LOG_OPTIONS + REPORT_OPTIONS + LATER_OPTIONS, ["log"]),
     "kb": (LOG_OPTIONS, ["log"]),
     "check": (LOG_OPTIONS, ["model", "log"]),
     "gen": (GEN_OPTIONS, []),
     "sample": (["seed"], []),
+    "regex": ([], ["model", "word"]),
 }
 
-# The number that a usage line names.
-PLACES = {name: place for place, name in enumerate(MINE_OPTIONS + GEN_OPTIONS, 2)}
+# Those that a command must have.
+NEEDED = ["model"]
+
+# The number that a usage line names. The values of options are tried before all else.
 TWICE_STANDARD_INPUT, TOO_MANY_EVENTS = 17, 18
+PLACES = {name: place for place, name in enumerate(LOG_OPTIONS + REPORT_OPTIONS + GEN_OPTIONS, 2)}
+PLACES |= {name: place for place, name in enumerate(LATER_OPTIONS, 19)}
+NO_TEMPLATE, NO_WORD = 22, 23
+
+WORD_CHARACTERS = 64
 
 
 def one_of(*texts):
@@ -64,6 +74,8 @@ MEANINGS = {
     "traces": whole(0, TRACES),
     "length": whole(1, 1_000),
     "letters": whole(1, 26),
+    "repertoire": one_of("1", "2"),
+    "on-limit": one_of("stop", "keep"),
 }
 
 # What is taken where it isn't given.
@@ -83,8 +95,11 @@ DEFAULTS = {
     "traces": 100,
     "length": 10,
     "letters": 4,
+    "repertoire": "1",
+    "on-limit": "stop",
     "model": "",
     "log": "-",
+    "word": None,
 }
 
 
@@ -135,7 +150,7 @@ class Taken:
     def all(self, words):
         for word in words:
             self.word(word)
-        if self.waiting or "model" in self.places:
+        if self.waiting or set(NEEDED) & set(self.places):
             raise Refused("Usage", 1)
         return self.texts
 
@@ -155,4 +170,15 @@ def settings(words):
         raise Refused("Usage", TWICE_STANDARD_INPUT)
     if found["traces"] * found["length"] > EVENTS:
         raise Refused("Usage", TOO_MANY_EVENTS)
+    if command == "regex":
+        try_expression(found["model"], found["word"])
     return found
+
+
+def try_expression(template, word):
+    """The word has a letter for each event: a, b where the template has two activities, and x for any other."""
+    if template not in TEMPLATES:
+        raise Refused("Usage", NO_TEMPLATE)
+    letters = "ax" if template in EXISTENCE else "abx"
+    if word is not None and (len(word) > WORD_CHARACTERS or not set(word) <= set(letters)):
+        raise Refused("Usage", NO_WORD)

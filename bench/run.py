@@ -109,6 +109,12 @@ def rare(path, seed, names, others):
             file.write(steps + "\n" + steps[:cut] + chr(0x4E00 + place) + steps[cut:] + "\n")
 
 
+def letters_in_order(path, seed, names, traces):
+    """Traces of the same steps in a row."""
+    with open(path, "w", encoding="utf-8") as file:
+        file.write((LETTERS.decode()[:names] + "\n") * traces)
+
+
 EXISTENCE = ["Init", "End", "Participation", "AtMostOne"]
 PAIRS = [
     "ChainSuccession", "AlternateSuccession", "Succession", "CoExistence", "ChainResponse", "AlternateResponse",
@@ -156,8 +162,11 @@ LOGS = {
     "of-20-1m.txt": (letters, 16, 1_000_000, 20, 20),
     "of-1000-1m.txt": (letters, 17, 1_000_000, 1_000, 1_000),
     "rules-561.json": (rules, 15, 561),
+    "any-20.txt": (letters, 18, 100_000, 1, 39, 20),
+    "rare-12-0.txt": (letters_in_order, 0, 12, 200),
     "line-15.txt": (one_line, 0, 15, 1),
     "line-16.txt": (one_line, 0, 16, 1),
+    "line-26.txt": (one_line, 0, 26, 1),
 }
 
 
@@ -193,9 +202,12 @@ def model_rows():
             for limits in [DEFAULTS, LOW]:
                 yield f"process-{count}.txt", words + limits
         yield "any-26.txt", words + ALWAYS
-        for name in ["rare-12-100.txt", "rare-12-400.txt", "line-15.txt", "line-16.txt"]:
+        for name in ["rare-12-0.txt", "rare-12-100.txt", "rare-12-400.txt", "line-15.txt", "line-16.txt"]:
             yield name, words + DEFAULTS
 
+
+SECOND = ["--repertoire", "2"]
+KEEP = ["--on-limit", "keep"]
 
 TABLES = {
     "strings": [(f"{log}.txt", words) for log in ["1m-39", "16m-39", "1m-999", "16m-999"] for words in [["kb"], SCORES]],
@@ -214,6 +226,15 @@ TABLES = {
         ("cases-1m.csv", ["kb", *CSV]),
     ],
     "models": list(model_rows()),
+    "second": [
+        ("1m-39.txt", [*SCORES, *SECOND]),
+        ("16m-39.txt", [*SCORES, *SECOND]),
+        *((f"process-{count}.txt", ["mine", *SECOND]) for count in [8, 10, 12]),
+    ],
+    "keep": [
+        *((f"line-{count}.txt", ["mine", *KEEP]) for count in [15, 16, 26]),
+        *(("any-20.txt", ["mine", *KEEP, *limits]) for limits in [DEFAULTS, ALWAYS]),
+    ],
     "checks": [(f"of-{length}-1m.txt", ["check", "rules-561.json"]) for length in [20, 1000]],
 }
 
@@ -223,6 +244,8 @@ TITLES = {
     "activities": "By the number of activities",
     "csv": "CSV logs",
     "models": "Models",
+    "second": "The second repertoire",
+    "keep": "Beyond the limit on states",
     "checks": "Checks",
 }
 

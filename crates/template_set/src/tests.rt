@@ -108,7 +108,13 @@ fn names_and_arities(rt: HostRuntime) {
     }
     assert_eq!(rt; two, 19);
     for text in [
-        "participation", "Response ", "", "AtLeast", "Exactly0", "AtLeast10", "exactly2",
+        "participation",
+        "Response ",
+        "",
+        "AtLeast",
+        "Exactly0",
+        "AtLeast10",
+        "exactly2",
     ] {
         assert_eq!(rt; kind_of(text), None, "{text}");
     }

@@ -3,8 +3,8 @@ use Rattle.std.proofs.lemmas.List.{get_or_read}
 use Rattle.dfa_core.proofs.Paths.{first-found, none-found, to}
 use Rattle.dfa_core.proofs.Places.{place_fits}
 use Rattle.dfa_core.proofs.Searches.{none-more, few-search}
-use Rattle.dfa_core.proofs.reach.first_accepted.Goals.{else-number-count-via-then-number-count+else-accepting-2, else-number-count-via-else-number-count}
-use Rattle.dfa_core.proofs.reach.first_accepted.Goals as goal
+use Rattle.dfa_core.proofs.reach.first_found.Goals.{else-number-count-via-then-number-count+else-accepting-2, else-number-count-via-else-number-count}
+use Rattle.dfa_core.proofs.reach.first_found.Goals as goal
 
 pub trace_to-requires-clause-there : goal.trace_to-requires-clause-there
 trace_to-requires-clause-there g c =

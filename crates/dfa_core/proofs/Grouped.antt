@@ -1,6 +1,6 @@
 -- Traces over symbols, and over the numbers of their columns.
-use Rattle.std.proofs.Common.{◌≡◌, ◌⊎◌, inl, inr, ℕ, ◌+◌, ◌<◌, ◌≤◌, List, [], ◌∷◌, ◌++◌, Option, Some, None, MatchOption, map, length, get_or, set, refl, sym, ap, ◌∙◌, arith, get_or-set_same, get_or-set_other, length-set}
-use Rattle.std.proofs.lemmas.List.{get_or_append_left, get_or_push, length_push, length-map}
+use Rattle.std.proofs.Common.{◌≡◌, ◌⊎◌, inl, inr, ℕ, zero, suc, ◌+◌, ◌<◌, ◌≤◌, List, [], ◌∷◌, ◌++◌, Option, Some, None, MatchOption, map, length, replicate, get_or, set, refl, sym, ap, ◌∙◌, arith, get_or-set_same, get_or-set_other, length-set}
+use Rattle.std.proofs.lemmas.List.{get_or_append_left, get_or_push, length_push, length-map, length-replicate}
 use Rattle.std.proofs.lemmas.Bool.{cases_eq, cases_lt}
 use Rattle.dfa_core.specs.Columns.{Columns, AreColumns}
 use Rattle.dfa_core.specs.Grouping.{Adds, AreMet, IsGrouped, IsLeastOf, IsOfKnown, by_columns}
@@ -11,6 +11,31 @@ use Rattle.dfa_core.specs.Traces.{IsTrace}
 use Rattle.dfa_core.specs.declared.columns.Grouping.{Grouping}
 use Rattle.dfa_core.proofs.Places.{pushed}
 use Rattle.dfa_core.proofs.Shortlex.{at_most_trans, before_total, not_before}
+
+pub grouped-none : (c : Columns) → IsGrouped c 0 [] []
+grouped-none c = record {
+  of_length = refl;
+  few = omega arith;
+  of_bound = λ x lx. absurd (omega (arith, lx));
+  least_bound = λ k lk. absurd (omega (arith, lk));
+  least_of = λ k lk. absurd (omega (arith, lk));
+  at_most = λ x lx. absurd (omega (arith, lx));
+  ascending = λ i k lt lk. absurd (omega (arith, lk));
+  apart = λ x lx. absurd (omega (arith, lx));
+  together = λ x y lx ly e. absurd (omega (arith, lx));
+}
+
+nones : (n i : ℕ) → get_or {A = Option ℕ} (replicate n None) i None ≡ None
+nones zero i = refl
+nones (suc n) zero = refl
+nones (suc n) (suc i) = nones n i
+
+pub met-none : (c : Columns) (numbers : List (Option ℕ)) → numbers ≡ replicate c.count None → AreMet c 0 [] [] numbers
+met-none c numbers e = rw e (record {
+  numbers_length = length-replicate c.count None;
+  numbered = λ x lx. absurd (omega (arith, lx));
+  named = λ i k is. let no : None ≡ Some k = sym (nones c.count i) ∙ is in absurd (cc (no));
+})
 
 -- one symbol more
 module _ (c : Columns) (n : ℕ) (of least : List ℕ) (numbers : List (Option ℕ)) (h : IsGrouped c n of least) (m : AreMet c n of least numbers) where
@@ -197,12 +222,12 @@ module _ (s : Steps) (c : Columns) (of least : List ℕ) (h : IsGrouped c s.symb
     over = over-symbols u l.over;
     member = ap s.accepting (run-symbols s.start u) ∙ l.member;
     none_before = λ w t is b. not_before (symbols u) w
-    (at_most-numbers u w t (elim (before_total u (numbers w)) [
-      | inl e ↦ inl e
-      | inr (inl less) ↦ inr less
-      | inr (inr more) ↦ absurd (l.none_before (numbers w) (over-numbers w t) (ap s.accepting (run-numbers s.start w t) ∙ is) more)
-    ]))
-    b;
+        (at_most-numbers u w t (elim (before_total u (numbers w)) [
+          | inl e ↦ inl e
+          | inr (inl less) ↦ inr less
+          | inr (inr more) ↦ absurd (l.none_before (numbers w) (over-numbers w t) (ap s.accepting (run-numbers s.start w t) ∙ is) more)
+        ]))
+        b;
   }
 
   pub none-symbols : HasNoMember (length least) (Accepts (by_columns s least)) → HasNoMember s.symbols (Accepts s)

@@ -14,10 +14,6 @@ use Rattle.dfa_core.proofs.Grouped.{at_most-numbers, before-symbols, numbers, ov
 use Rattle.dfa_core.proofs.Paths.{from_start, to, to-in_order, to-over, to-state}
 use Rattle.dfa_core.proofs.Runs.{run-bound}
 
--- a loop that has asked of each state whether it is accepting
-pub all-taken : (a : Steps) (states items : List ℕ) (accepting : List Bool) (k : ℕ) → accepting ≡ map a.accepting (take k items) → length items ≤ k → items ≡ states → accepting ≡ map a.accepting states
-all-taken a states items accepting k e le same = e ∙ ap (map a.accepting) (take_all k items le ∙ same)
-
 module _ (s : Steps) (c : Columns) (of least states next : List ℕ) (accepting : List Bool) (h : IsGrouped c s.symbols of least) (are : AreColumns s c)
     (x : IsExplored (by_columns s least) states next) (few : s.symbols < 2 ^ 32) (all : accepting ≡ map s.accepting states) where
   abbrev r : Automaton
@@ -32,12 +28,13 @@ module _ (s : Steps) (c : Columns) (of least states next : List ℕ) (accepting 
   in_table : (t k : ℕ) → t < length states → k < length least → t * length least + k < length next
   in_table t k lt lk = let b = mul-add-lt t (length least) k (length states) lt lk in let m = mul_comm (length least) (length states) in omega (arith, x.table_length)
 
-  pub whole-explored : IsWhole r
+  whole-explored : IsWhole r
   unfolding step_column
   whole-explored = record {
     start_bound = omega (arith, x.search.some, e);
     few_states = omega (arith, x.few, x.fits, e);
     few_symbols = omega (arith, h.of_length, few);
+    few_columns = omega (arith, h.few, few);
     column_bound = λ y ly. h.of_bound y (omega (arith, h.of_length, ly));
     table_length = x.table_length ∙ ap (λ (n : ℕ). n * length least) (sym e);
     entry_bound = λ q k lq lk. let b = x.entries.bound q k lk (in_table q k (omega (arith, e, lq)) lk) in omega (arith, e, b);
@@ -45,7 +42,7 @@ module _ (s : Steps) (c : Columns) (of least states next : List ℕ) (accepting 
 
   -- the state that a number stands for goes along with a run
   states-run : (t : ℕ) (w : List ℕ) → t < length states → IsTrace s.symbols w → get_or states (run (steps_of r) t w) 0 ≡ run (by_columns s least) (get_or states t 0) (numbers s c of least h are w)
-  unfolding (step, step_column)
+  unfolding step step_column
   states-run t [] l tw = refl
   states-run t (y ∷ w) l tw =
       let lk = h.of_bound y tw.0 in
@@ -91,7 +88,7 @@ module _ (s : Steps) (c : Columns) (of least states next : List ℕ) (accepting 
       over-least_to : (q : ℕ) → q < length states → IsTrace s.symbols (symbols s c of least h are (least_to q))
       over-least_to q lq = over-symbols s c of least h are (least_to q) (to-over (by_columns s least) states x.found (length states * length least) x.search q q (omega arith) lq)
 
-  pub reachable-explored : IsReachable s r
+  reachable-explored : IsReachable s r
   reachable-explored = record {
     over = h.of_length;
     same = λ w tw. ap (λ (l : List Bool). get_or l (run (steps_of r) 0 w) false) all ∙ (get_or-map s.accepting states (run (steps_of r) 0 w) 0 false (run-in w tw) ∙ ap s.accepting (state-run w tw));
@@ -101,12 +98,22 @@ module _ (s : Steps) (c : Columns) (of least states next : List ℕ) (accepting 
     in_order = breadth_first-explored;
   }
 
-  pub columns-explored : HasColumns c r
+  columns-explored : HasColumns c r
   columns-explored = record {
+    within = λ y ly. are.bound y (omega (arith, h.of_length, ly));
     together = λ y z ly lz same. h.together y z (omega (arith, h.of_length, ly)) (omega (arith, h.of_length, lz)) same;
     apart = λ y z ly lz same.
         sym (h.apart y (omega (arith, h.of_length, ly))) ∙ (ap (λ (k : ℕ). c.of (get_or least k 0)) same ∙ h.apart z (omega (arith, h.of_length, lz)));
-    symbol = λ k. get_or least k 0;
-    symbol_bound = λ k lk. omega (arith, h.of_length, h.least_bound k lk);
-    symbol_column = h.least_of;
+    some = record {
+      symbol = λ k. get_or least k 0;
+      bound = λ k lk. omega (arith, h.of_length, h.least_bound k lk);
+      of = h.least_of;
+    };
   }
+
+-- with the marks of all states, which a loop has asked for
+pub built : (s : Steps) (c : Columns) (of least states next items : List ℕ) (accepting : List Bool) (width k : ℕ) → IsGrouped c s.symbols of least → AreColumns s c → IsExplored (by_columns s least) states next → s.symbols < 2 ^ 32
+    → accepting ≡ map s.accepting (take k items) → length items ≤ k → items ≡ states → width ≡ length least → IsReachable s (automaton of width 0 next accepting) × HasColumns c (automaton of width 0 next accepting)
+built s c of least states next items accepting width k h are x few e le same is =
+    let all = e ∙ ap (map s.accepting) (take_all k items le ∙ same) in
+    rw is (reachable-explored s c of least states next accepting h are x few all, columns-explored s c of least states next accepting h are x few all)

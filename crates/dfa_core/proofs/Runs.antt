@@ -4,7 +4,8 @@ use Rattle.std.specs.List.{AllByRecursion}
 use Rattle.std.proofs.lemmas.List.{length-replicate}
 use Rattle.std.proofs.lemmas.Nat.{mul-add-lt}
 use Rattle.std.proofs.Math.Nat.{mul_comm}
-use Rattle.dfa_core.specs.Automaton.{Automaton, automaton, IsWhole, IsEverything, state_count, column, step, step_column, run, accepts, is_accepting}
+use Rattle.dfa_core.specs.Automaton.{Automaton, automaton, IsWhole, IsEverything, state_count, column, step, step_column, run, accepts, is_accepting, steps_of}
+use Rattle.dfa_core.specs.Columns.{AreColumns, columns_of}
 use Rattle.dfa_core.specs.Steps.{Steps, run as run_of}
 use Rattle.dfa_core.specs.Traces.{IsTrace}
 
@@ -20,6 +21,10 @@ step_bound a h q x lt lx = h.entry_bound q (column a x) lt (h.column_bound x lx)
 pub run-bound : (a : Automaton) → IsWhole a → (q : ℕ) (w : List ℕ) → q < state_count a → IsTrace a.symbols w → run a q w < state_count a
 run-bound a h q [] lt t = lt
 run-bound a h q (x ∷ w) lt t = run-bound a h (step a q x) w (step_bound a h q x lt t.0) t.1
+
+pub columns-whole : (a : Automaton) → IsWhole a → AreColumns (steps_of a) (columns_of a)
+unfolding step
+columns-whole a h = record { bound = h.column_bound; alike = λ q x y lx ly same. ap (step_column a q) same }
 
 -- with one state, and that accepting, each trace is accepted
 pub accepts-one_state : (a : Automaton) → IsWhole a → state_count a ≡ 1 → is_accepting a 0 ≡ true → (w : List ℕ) → IsTrace a.symbols w → accepts a w ≡ true
@@ -39,6 +44,7 @@ whole-everything n columns next accepting few c e f = rw (c, e, f) (record {
   start_bound = omega arith;
   few_states = lit< tt;
   few_symbols = omega (arith, length-replicate n zero, few);
+  few_columns = lit< tt;
   column_bound = λ x lx. rw (zeros n x) (omega arith);
   table_length = refl;
   entry_bound = λ q k lq lk. let z : q * 1 + k ≡ 0 = omega arith in rw z (omega arith);
@@ -59,13 +65,14 @@ below n (x ∷ xs) zero all lt = all.0
 below n (x ∷ xs) (suc k) all lt = below n xs k all.1 (omega (arith, lt))
 
 -- columns of symbols, and a table whose entries are states
-pub whole-entries : (columns : List ℕ) (width start : ℕ) (next : List ℕ) (accepting : List Bool) → length columns < 2 ^ 32 → AllByRecursion (λ k. k < width) columns
+pub whole-entries : (columns : List ℕ) (width start : ℕ) (next : List ℕ) (accepting : List Bool) → length columns < 2 ^ 32 → width < 2 ^ 32 → AllByRecursion (λ k. k < width) columns
     → start < length accepting → length accepting < 2 ^ 32 → length next ≡ length accepting * width → AllByRecursion (λ x. x < length accepting) next → IsWhole (automaton columns width start next accepting)
 unfolding step_column
-whole-entries columns width start next accepting short within first few long all = record {
+whole-entries columns width start next accepting short narrow within first few long all = record {
   start_bound = first;
   few_states = few;
   few_symbols = short;
+  few_columns = narrow;
   column_bound = λ x lx. below width columns x within lx;
   table_length = long;
   entry_bound = λ q k lq lk.

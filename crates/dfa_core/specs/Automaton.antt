@@ -58,6 +58,7 @@ pub record IsWhole (a : Automaton) : Type 0 where
   pub start_bound : a.start < state_count a
   pub few_states : state_count a < 2 ^ 32
   pub few_symbols : a.symbols < 2 ^ 32
+  pub few_columns : a.width < 2 ^ 32
   pub column_bound : (x : ℕ) → x < a.symbols → column a x < a.width
   pub table_length : length a.next ≡ state_count a * a.width
   pub entry_bound : (q c : ℕ) → q < state_count a → c < a.width → step_column a q c < state_count a

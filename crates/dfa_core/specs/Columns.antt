@@ -17,10 +17,15 @@ pub record AreColumns (s : Steps) (c : Columns) : Type 0 where
   pub bound : (x : ℕ) → x < s.symbols → c.of x < c.count
   pub alike : (q x y : ℕ) → x < s.symbols → y < s.symbols → c.of x ≡ c.of y → s.next q x ≡ s.next q y
 
--- Two symbols have one column in an automaton exactly where they have one among the columns. Each column of the automaton has a symbol.
+-- each column has a symbol
+pub record HasSymbols (a : Automaton) : Type 0 where
+  pub symbol : ℕ → ℕ
+  pub bound : (k : ℕ) → k < a.width → symbol k < a.symbols
+  pub of : (k : ℕ) → k < a.width → column a (symbol k) ≡ k
+
+-- Two symbols have one column in an automaton exactly where they have one among the columns, and each column of the automaton has a symbol.
 pub record HasColumns (c : Columns) (a : Automaton) : Type 0 where
+  pub within : (x : ℕ) → x < a.symbols → c.of x < c.count
   pub together : (x y : ℕ) → x < a.symbols → y < a.symbols → c.of x ≡ c.of y → column a x ≡ column a y
   pub apart : (x y : ℕ) → x < a.symbols → y < a.symbols → column a x ≡ column a y → c.of x ≡ c.of y
-  pub symbol : ℕ → ℕ
-  pub symbol_bound : (k : ℕ) → k < a.width → symbol k < a.symbols
-  pub symbol_column : (k : ℕ) → k < a.width → column a (symbol k) ≡ k
+  pub some : HasSymbols a

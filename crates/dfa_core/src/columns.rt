@@ -1,4 +1,4 @@
-ghost use Rattle.std.specs.Prelude.{◌≡◌, ◌<◌, ◌^◌, ℕ, map, slice_index, slice_index_or, length, IfOk, IfErr, OnOk, OnErr, vec_len};
+ghost use Rattle.std.specs.Prelude.{◌≡◌, ◌<◌, ◌^◌, ℕ, [], None, map, replicate, slice_index, slice_index_or, length, IfOk, IfErr, OnOk, vec_len};
 ghost use Rattle.dfa_core.specs.Columns.{AreColumns, Columns, columns_of};
 ghost use Rattle.dfa_core.specs.Grouping.{Adds, IsGrouped};
 
@@ -48,17 +48,29 @@ impl Grouping {
     /// The columns of a system.
     pub fn of<S: Columned>(alloc: Global, system: &S) -> Result<Grouping, Refusal>
         ensures ok { IfOk result (λ g. IsGrouped (S.columns system.now) (S.steps system.now).symbols g.of.items g.least.items) }
+        ensures alike { IfOk result (λ g. AreColumns (S.steps system.now) (S.columns system.now)) }
+        ensures few { IfOk result (λ g. (S.steps system.now).symbols < 2 ^ 32) }
         ensures err { IfErr result (λ e. e ≡ Refusal.Memory) }
     {
-        let mut grouping = Grouping {
-            of: Vec::new(alloc),
-            least: Vec::new(alloc),
-            numbers: vec![in alloc; None; system.columns()]?,
-        };
+        let mut grouping = Grouping::none(alloc, system.columns())?;
         for symbol in 0..system.symbols() {
             grouping.add(symbol, system.column(symbol))?;
         }
         Ok(grouping)
+    }
+
+    /// Of a system of so many columns no symbol.
+    fn none(alloc: Global, columns: usize) -> Result<Grouping, Refusal>
+        ensures of { IfOk result (λ g. g.of.items ≡ []) }
+        ensures least { IfOk result (λ g. g.least.items ≡ []) }
+        ensures numbers { IfOk result (λ g. g.numbers.items ≡ replicate columns None) }
+        ensures err { IfErr result (λ e. e ≡ Refusal.Memory) }
+    {
+        Ok(Grouping {
+            of: Vec::new(alloc),
+            least: Vec::new(alloc),
+            numbers: vec![in alloc; None; columns]?,
+        })
     }
 
     /// Adds a symbol of a column of the system.
@@ -66,7 +78,7 @@ impl Grouping {
         requires column { column < vec_len self.old.numbers }
         requires few { vec_len self.old.least < 2 ^ 32 }
         ensures ok { OnOk result (Adds self.old self.new symbol column) }
-        ensures err { OnErr result (λ e. e ≡ Refusal.Memory) }
+        ensures err { IfErr result (λ e. e ≡ Refusal.Memory) }
     {
         match self.numbers[column] {
             Some(number) => self.of.push(number)?,
@@ -121,7 +133,8 @@ impl<S: System> System for ByColumns<'_, S> {
     }
 
     fn step(&self, state: u32, symbol: u32) -> u32 {
-        self.system.step(state, self.grouping.least[symbol as usize])
+        self.system
+            .step(state, self.grouping.least[symbol as usize])
     }
 
     fn accepting(&self, state: u32) -> bool {

@@ -6,8 +6,8 @@ ghost use Rattle.dfa_core.specs.Searching.{IsExplored};
 ghost use Rattle.dfa_core.specs.Steps.{Steps, Accepts};
 
 use crate::columns::{ByColumns, Grouping};
-use crate::{Columned, Dfa};
 use crate::search::Search;
+use crate::{Columned, Dfa};
 use decl_base::{Refusal, Trace};
 use std::alloc::Global;
 

@@ -69,7 +69,8 @@ impl Dfa {
 
     /// The number of columns.
     pub fn columns(&self) -> u32
-        ensures { result ≡ self.now.width }
+        ensures value { result ≡ self.now.width }
+        ensures whole { IsWhole self.now }
     {
         self.width
     }

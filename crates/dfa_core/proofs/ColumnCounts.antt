@@ -1,6 +1,6 @@
 -- How many columns an automaton has.
 use Rattle.std.proofs.Common.{◌≡◌, ℕ, ◌<◌, ◌≤◌, sym, ◌∙◌}
-use Rattle.dfa_core.specs.Automaton.{Automaton, column}
+use Rattle.dfa_core.specs.Automaton.{Automaton}
 use Rattle.dfa_core.specs.Columns.{Columns, HasColumns}
 use Rattle.dfa_core.proofs.Pigeons.{le_from_injection}
 

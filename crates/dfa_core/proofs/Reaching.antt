@@ -1,14 +1,13 @@
 -- The automaton of a search over columns that is over.
-use Rattle.std.proofs.Common.{◌≡◌, inl, inr, ℕ, ◌+◌, ◌*◌, ◌<◌, ◌≤◌, ◌^◌, List, [], ◌∷◌, Bool, true, false, map, take, length, get_or, refl, sym, ap, ◌∙◌, arith}
+use Rattle.std.proofs.Common.{◌≡◌, inl, inr, ℕ, ◌+◌, ◌*◌, ◌<◌, ◌≤◌, ◌^◌, List, [], ◌∷◌, Bool, false, map, take, length, get_or, refl, sym, ap, ◌∙◌, arith}
 use Rattle.std.proofs.lemmas.List.{get_or-map, length-map, take_all}
 use Rattle.std.proofs.lemmas.Nat.{mul-add-lt}
 use Rattle.std.proofs.Math.Nat.{mul_comm}
-use Rattle.dfa_core.specs.Automaton.{Automaton, automaton, IsBreadthFirst, IsReachable, IsWhole, column, step, step_column, steps_of}
+use Rattle.dfa_core.specs.Automaton.{Automaton, automaton, IsBreadthFirst, IsReachable, IsWhole, step, step_column, steps_of}
 use Rattle.dfa_core.specs.Columns.{AreColumns, Columns, HasColumns}
 use Rattle.dfa_core.specs.Grouping.{IsGrouped, by_columns}
-use Rattle.dfa_core.specs.Searching.{IsExplored, path}
-use Rattle.dfa_core.specs.Shortlex.{IsBefore, IsAtMost}
-use Rattle.dfa_core.specs.Steps.{Steps, Accepts, accepts, run}
+use Rattle.dfa_core.specs.Searching.{IsExplored}
+use Rattle.dfa_core.specs.Steps.{Steps, run}
 use Rattle.dfa_core.specs.Traces.{IsTrace}
 use Rattle.dfa_core.proofs.Grouped.{at_most-numbers, before-symbols, numbers, over-numbers, over-symbols, run-numbers, run-symbols, symbols}
 use Rattle.dfa_core.proofs.Paths.{from_start, to, to-in_order, to-over, to-state}

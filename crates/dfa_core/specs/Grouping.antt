@@ -1,5 +1,5 @@
 -- Internal: columns that are numbered in the order of their least symbols, and a search that goes over them.
-use Rattle.std.specs.Prelude.{◌≡◌, ℕ, ◌+◌, ◌<◌, ◌≤◌, ◌∷◌, [], ◌++◌, List, Option, Some, None, MatchOption, length, slice_index_or as get_or, slice_set as set}
+use Rattle.std.specs.Prelude.{◌≡◌, ℕ, ◌<◌, ◌≤◌, ◌∷◌, [], ◌++◌, List, Option, Some, None, MatchOption, length, slice_index_or as get_or, slice_set as set}
 use Rattle.dfa_core.specs.Columns.{Columns}
 use Rattle.dfa_core.specs.Steps.{Steps}
 use Rattle.dfa_core.specs.declared.columns.Grouping.{Grouping}

@@ -1,13 +1,11 @@
 -- Columns of two automata side by side.
-use Rattle.std.proofs.Common.{◌≡◌, ◌≢◌, ◌⊎◌, inl, inr, ℕ, suc, ◌+◌, ◌*◌, ◌<◌, ◌≤◌, ◌^◌, Bool, true, false, eqb, if◌then◌else◌, refl, sym, ap, ◌∙◌, arith, eq-eqb}
-use Rattle.std.proofs.lemmas.Bool.{cases_eq}
+use Rattle.std.proofs.Common.{◌≡◌, ℕ, ◌+◌, ◌*◌, ◌/◌, ◌%◌, ◌<◌, ◌≤◌, Bool, true, false, eqb, if◌then◌else◌, refl, ap, arith}
 use Rattle.std.proofs.lemmas.Nat.{mul-add-lt, same_from_place}
-use Rattle.std.proofs.Math.Nat.{mul-le-mul_right, mul_comm}
-use Rattle.dfa_core.specs.Automaton.{Automaton, IsReachable, IsWhole, column, steps_of}
+use Rattle.std.proofs.Math.Nat.{mul_comm}
+use Rattle.dfa_core.specs.Automaton.{Automaton, IsWhole, column}
 use Rattle.dfa_core.specs.Columns.{AreColumns, Columns, HasColumns, columns_of}
 use Rattle.dfa_core.specs.Steps.{Steps}
 use Rattle.dfa_core.proofs.ColumnCounts.{few-columns}
-use Rattle.dfa_core.proofs.Runs.{columns-whole}
 use Rattle.template_core.specs.Tables.{class, column as class_column, step as table_step}
 use Rattle.template_core.specs.declared.class.Class.{Class}
 use Rattle.template_core.specs.declared.class.Class.TheVariants.{First, Second, Other}
@@ -47,10 +45,6 @@ intersection-columns a b r h same over k = record {
   apart = λ x y lx ly e. same_from_place (column a x) (column b x) (column a y) (column b y) b.width (h.column_bound x (omega (arith, same, over, lx))) (h.column_bound y (omega (arith, same, over, ly))) (k.apart x y lx ly e);
   some = k.some;
 }
-
--- a number of a pair is one of 64 bits
-pub column_fits : (at x s : ℕ) → at < 2 ^ 32 → x < s → s < 2 ^ 32 → at * s + x < 2 ^ 64
-column_fits at x s la lx ls = let m : suc at * s ≤ 4294967296 * s = mul-le-mul_right s (omega arith) in omega arith
 
 -- ---- a constraint
 

@@ -30,6 +30,7 @@ pub record IsBeingSplit (a : Automaton) (count splitter column : ℕ) (was class
 pub split-more : (a : Automaton) (count now splitter x : ℕ) (inside states was old new : List ℕ) → IsWhole a → x < a.width → count ≤ now → splitter < count
     → ((q : ℕ) → q < state_count a → is_in inside q ≡ eqb (get_or was q 0) splitter) → HasSymbols a → LeadTo a x inside states → IsCut (state_count a) now states old new
     → IsBeingSplit a count splitter x was old → IsBeingSplit a count splitter (x + 1) was new
+unfolding step
 split-more a count now splitter x inside states was old new whole lx grows low k has t s h =
     let touched : (q : ℕ) → q < state_count a → is_in states q ≡ eqb (get_or was (step_column a q x) 0) splitter = λ q lq. t.are q lq ∙ k (step_column a q x) (whole.entry_bound q x lq lx) in
     record {
@@ -63,7 +64,6 @@ split-more a count now splitter x inside states was old new whole lx grows low k
   where
     -- a symbol of the column leads where the column does
     leads : (q : ℕ) (w : List ℕ) → is_accepting a (run a (step a q (has.symbol x)) w) ≡ is_accepting a (run a (step_column a q x) w)
-    unfolding step
     leads q w = ap (λ (k : ℕ). is_accepting a (run a (step_column a q k) w)) (has.of x lx)
 
     in_splitter : (p o : ℕ) → p < state_count a → o < state_count a → get_or old p 0 ≡ get_or old o 0 → eqb (get_or was p 0) splitter ≡ eqb (get_or was o 0) splitter

@@ -1,7 +1,6 @@
 -- Cells that are filled state by state, and walks along them.
-use Rattle.std.proofs.Common.{◌≡◌, inl, inr, ℕ, zero, suc, ◌+◌, ◌*◌, ◌<◌, ◌≤◌, List, Option, Some, None, Bool, true, false, ◌||◌, ◌&&◌, eqb, leb, length, get_or, set, replicate, refl, sym, ap, ◌∙◌, arith, get_or-set_same, get_or-set_other, length-set, eq-eqb}
+use Rattle.std.proofs.Common.{◌≡◌, inl, inr, ℕ, suc, ◌+◌, ◌*◌, ◌<◌, ◌≤◌, List, Option, Some, None, Bool, true, false, ◌||◌, ◌&&◌, eqb, leb, length, get_or, set, refl, sym, ap, ◌∙◌, arith, get_or-set_same, get_or-set_other, length-set, eq-eqb}
 use Rattle.std.proofs.lemmas.Bool.{cases_eq, cases_lt}
-use Rattle.std.proofs.lemmas.List.{length-replicate}
 use Rattle.std.proofs.lemmas.Nat.{same_from_place, mul-add-lt}
 use Rattle.std.proofs.Math.Nat.{mul_comm}
 use Rattle.dfa_core.specs.Automaton.{Automaton, IsWhole, state_count, step_column}
@@ -52,22 +51,6 @@ filled-next a column state last before all h = record {
   last_open = λ k t l l2 more. h.last_open k t l l2 (omega arith);
   before_of = λ k q l l2 less. let next : k * state_count a + q < suc column * state_count a = omega arith in h.before_of k q l l2 (omega (arith, all));
 }
-
-nones : (n i : ℕ) → get_or {A = Option ℕ} (replicate n None) i None ≡ None
-nones zero i = refl
-nones (suc n) zero = refl
-nones (suc n) (suc i) = nones n i
-
--- no cell is filled
-pub filled-none : (a : Automaton) (last before : List (Option ℕ)) → last ≡ replicate (a.width * state_count a) None → before ≡ replicate (a.width * state_count a) None → AreFilled a 0 0 last before
-filled-none a last before e f = rw (e, f) (record {
-  last_length = length-replicate (a.width * state_count a) None;
-  before_length = length-replicate (a.width * state_count a) None;
-  last_done = λ k t l l2 less. absurd (omega (arith, less));
-  last_at = λ k t l l2 same. rw (nones (a.width * state_count a) (k * state_count a + t)) (λ p less to. omega (arith, less));
-  last_open = λ k t l l2 more. rw (nones (a.width * state_count a) (k * state_count a + t)) (λ p less to. omega (arith, less));
-  before_of = λ k q l l2 less. absurd (omega (arith, less));
-})
 
 -- what is visited of a walk, at a state
 abbrev pub visited : Automaton → ℕ → ℕ → Option ℕ → Bool → ℕ → Bool

@@ -53,7 +53,13 @@ fn states_are_numbered_breadth_first(rt: HostRuntime) -> Result<(), Fail> {
     // The traces with a 1, from the start 2, in four states of which 1 and 3 are alike.
     let next = vec![in alloc; 2, 1, 3, 3, 2, 1, 1, 3]?;
     let columns = vec![in alloc; 0, 1]?;
-    let shuffled = Dfa::of(columns, 2, 2, next, vec![in alloc; false, true, false, true]?);
+    let shuffled = Dfa::of(
+        columns,
+        2,
+        2,
+        next,
+        vec![in alloc; false, true, false, true]?,
+    );
     let least = least(alloc, &shuffled)?;
     assert_eq!(rt; least.states(), 2);
     assert!(rt; least.start() == 0 && least.accepts(&[0, 1]) && !least.accepts(&[0]));

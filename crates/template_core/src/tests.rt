@@ -78,6 +78,7 @@ fn counters_on_two_traces()
       repeated = 1;
       first = 1;
       last = 0;
+      exact = 1 ∷ 1 ∷ 0 ∷ 0 ∷ 0 ∷ 0 ∷ 0 ∷ 0 ∷ 0 ∷ [];
     } }
     ensures of_a_and_b { pair_counts 0 1 ((0 ∷ 0 ∷ 2 ∷ 1 ∷ []) ∷ (0 ∷ 2 ∷ []) ∷ []) ≡ record {
       without = 1;

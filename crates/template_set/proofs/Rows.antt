@@ -1,5 +1,4 @@
 -- The rows of the hierarchy's list, and what holds of each row holds of the closure.
-use denote.Enum.Bare.{sameb, same_true, true_same}
 use Rattle.std.proofs.Common.{◌≡◌, ◌≢◌, ◌↔◌, ◌⊎◌, ℕ, zero, suc, ◌+◌, ◌<◌, ◌≤◌, ◌-◌, List, [], ◌∷◌, nat_eq, Bool, true, false, ◌&&◌, ◌==◌, not, if◌then◌else◌, nat_le, nat_lt, eqb, slice_index_or, rules, Option, Some, None, filter_map, ◌∙◌, length, refl, sym, ap, subst, arith, inl, inr, ⊎_elim}
 use Rattle.std.proofs.lemmas.Bool.{and_parts, and_from, eqb-true, eq-eqb, ltb-true}
 use Rattle.std.proofs.lemmas.Bool.Decides.{nat_tests}
@@ -13,7 +12,6 @@ use Rattle.template_core.specs.Repertoire.{Keeps}
 use Rattle.template_core.specs.declared.constraint.Constraint.{Constraint}
 use Rattle.template_core.specs.declared.kind.Kind.{Kind}
 use Rattle.template_core.specs.declared.kind.Kind.TheVariants.{Init, End, Participation, AtMostOne, ChainSuccession, AlternateSuccession, Succession, CoExistence, ChainResponse, AlternateResponse, Response, ChainPrecedence, AlternatePrecedence, Precedence, RespondedExistence, NotCoExistence, NotSuccession, NotChainSuccession, Exactly, AtLeast, AtMost, NotRespondedExistence, NotResponse, NotPrecedence, NotChainResponse, NotChainPrecedence}
-use Rattle.template_core.specs.contracts.kind.Kind.{the_type}
 use Rattle.template_set.specs.Hierarchy.{of, listed_below, IsListed, IsOver, IsStronger, directly, through}
 
 -- what holds of each element of a list
@@ -23,19 +21,19 @@ each_of_list P (y ∷ xs) all x (zero, within, is) = subst P is all.0
 each_of_list P (y ∷ xs) all x (suc k, within, is) = each_of_list P xs all.1 x (k, omega (arith, within), is)
 
 -- a row of a counted template, by its number
+by_test : (P : List Constraint → Type 0) (xs ys : List Constraint) (test : Bool) → (test ≡ true → P xs) → P ys → P (if test then xs else ys)
+by_test P xs ys true f q = f refl
+by_test P xs ys false f q = q
+
 below_least : (P : Constraint → Type 0) (n a b : ℕ) → (n ≡ 1 → P (of Participation a b)) → (1 < n → P (of (AtLeast (n - 1)) a b)) → AllByRecursion P (listed_below (AtLeast n) a b)
-below_least P zero a b one more = tt
-below_least P (suc zero) a b one more = (one refl, tt)
-below_least P (suc (suc n)) a b one more = (more (omega arith), tt)
+below_least P n a b one more =
+    by_test (AllByRecursion P) _ _ (n == 1) (λ e. (one (eqb-true n 1 e), tt))
+    (by_test (AllByRecursion P) _ _ (nat_lt 1 n) (λ e. (more (ltb-true 1 n e), tt)) tt)
 
 below_most : (P : Constraint → Type 0) (n a b : ℕ) → (n ≡ 1 → P (of AtMostOne a b)) → (1 < n → n < 9 → P (of (AtMost (n + 1)) a b)) → AllByRecursion P (listed_below (AtMost n) a b)
-below_most P zero a b one more = tt
-below_most P (suc zero) a b one more = (one refl, tt)
-below_most P (suc (suc n)) a b one more = by_test (nat_lt (suc (suc n)) 9) refl
-  where
-    by_test : (few : Bool) → nat_lt (suc (suc n)) 9 ≡ few → AllByRecursion P (if few then of (AtMost (suc (suc n) + 1)) a b ∷ [] else [])
-    by_test true e = (more (omega arith) (ltb-true (suc (suc n)) 9 e), tt)
-    by_test false e = tt
+below_most P n a b one more =
+    by_test (AllByRecursion P) _ _ (n == 1) (λ e. (one (eqb-true n 1 e), tt))
+    (by_test (AllByRecursion P) _ _ (nat_lt 1 n && nat_lt n 9) (λ e. let both = and_parts (nat_lt 1 n) (nat_lt n 9) e in (more (ltb-true 1 n both.0) (ltb-true n 9 both.1), tt)) tt)
 
 -- a number that falls at each step down from a template
 abbrev pub height : Kind → ℕ
@@ -57,7 +55,7 @@ height RespondedExistence = 0
 height NotCoExistence = 3
 height NotSuccession = 2
 height NotChainSuccession = 1
-height (Exactly n) = 20 + n
+height (Exactly n) = 21 + n
 height (AtLeast n) = n
 height (AtMost n) = 20 - (n + n)
 height NotRespondedExistence = 2
@@ -188,25 +186,6 @@ none_leads c d xs k are le none h =
     let p = place xs r.0 (subst (λ list. Contains list r.0) (sym are) r.1) in
     none p.0 r.0 (omega (arith, p.1)) p.2 r.2
 
--- the test of two constraints
-pub same_is : (c d : Constraint) (r : Bool) → r ≡ (sameb the_type c.kind d.kind && (eqb c.first d.first && eqb c.second d.second)) → r ≡ true ↔ (c ≡ d)
-same_is c d r is = (λ e. equal (sym is ∙ e), λ same. is ∙ subst (λ d. (sameb the_type c.kind d.kind && (eqb c.first d.first && eqb c.second d.second)) ≡ true) same itself)
-  where
-    equal : (sameb the_type c.kind d.kind && (eqb c.first d.first && eqb c.second d.second)) ≡ true → c ≡ d
-    equal e =
-        let both = and_parts (sameb the_type c.kind d.kind) (eqb c.first d.first && eqb c.second d.second) e in
-        let two = and_parts (eqb c.first d.first) (eqb c.second d.second) both.1 in
-        let kinds : c.kind ≡ d.kind = same_true the_type (search rules) _ _ both.0 in
-        let firsts : c.first ≡ d.first = eqb-true _ _ two.0 in
-        let seconds : c.second ≡ d.second = eqb-true _ _ two.1 in
-        let parts : of c.kind c.first c.second ≡ of d.kind d.first d.second = rw (kinds, firsts, seconds) refl in
-        parts
-
-    itself : (sameb the_type c.kind c.kind && (eqb c.first c.first && eqb c.second c.second)) ≡ true
-    itself =
-        and_from (sameb the_type c.kind c.kind) (eqb c.first c.first && eqb c.second c.second) (true_same the_type c.kind c.kind refl)
-        (and_from (eqb c.first c.first) (eqb c.second c.second) (eq-eqb c.first c.first refl) (eq-eqb c.second c.second refl))
-
 -- a constraint is well made where the one above it is, and a trace that keeps that one keeps it
 record Follows (kind : Kind) (a b : ℕ) (d : Constraint) : Type 0 where
   made : IsWellMade kind a b → IsWellMade d.kind d.first d.second
@@ -244,10 +223,10 @@ most_more n k h = grind (arith, nat_tests)
 
 -- what stands nowhere behind, or before, doesn't stand next to it
 not_next : (b : ℕ) (trace : List ℕ) (i : ℕ) → ¬ LaterIs b trace i → ¬ EventIs b trace (i + 1)
-not_next b trace i no is = no (i + 1, omega arith, is)
+not_next b trace i none is = none (i + 1, omega arith, is)
 
 not_previous : (a : ℕ) (trace : List ℕ) (i : ℕ) → ¬ EarlierIs a trace i → ¬ PreviousIs a trace i
-not_previous a trace i no r = no (i - 1, omega (arith, r.0), r.1)
+not_previous a trace i none r = none (i - 1, omega (arith, r.0), r.1)
 
 next_alternates : (a b : ℕ) (trace : List ℕ) (i : ℕ) → EventIs b trace (i + 1) → AlternatesLater a b trace i
 next_alternates a b trace i is = (i + 1, omega arith, is, λ k low high at. absurd (omega (arith, low, high)))

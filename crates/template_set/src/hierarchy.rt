@@ -28,12 +28,19 @@ fn leads_down(above: &Constraint, below: &Constraint) -> bool
 {
     for next in directly_below(above) {
         if let Some(next) = next {
-            if next == *below || leads_down(&next, below) {
+            if are_same(&next, below) || leads_down(&next, below) {
                 return true;
             }
         }
     }
     false
+}
+
+/// Whether two constraints are the same one.
+fn are_same(one: &Constraint, other: &Constraint) -> bool
+    ensures { IsTrue result ↔ (one.now ≡ other.now) }
+{
+    one == other
 }
 
 /// What the list of the hierarchy has directly below a constraint.

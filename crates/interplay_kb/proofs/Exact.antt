@@ -27,8 +27,11 @@ exact-ended a e c =
     fill_by_all (λ k. count_by (λ trace. eqb (occurrences nat_eq a trace) (k + 1)) (e ++ c ∷ [])) (one_more (exact_of a e) (occurrences nat_eq a c)) 9 0
     (length-map-range_with_len (λ j. get_or (exact_of a e) j 0 + one_if (eqb (occurrences nat_eq a c) (j + 1))) 0 9)
     (λ k h. get_or-map-range_with_len (λ j. get_or (exact_of a e) j 0 + one_if (eqb (occurrences nat_eq a c) (j + 1))) 0 9 k k 0 h (omega arith)
-    ∙ omega (arith, get_or-map-range_with_len (λ j. count_by (λ trace. eqb (occurrences nat_eq a trace) (j + 1)) e) 0 9 k k 0 h (omega arith),
-    count_by-ended (λ trace. eqb (occurrences nat_eq a trace) (k + 1)) e c))
+    ∙ omega (
+      arith,
+      get_or-map-range_with_len (λ j. count_by (λ trace. eqb (occurrences nat_eq a trace) (j + 1)) e) 0 9 k k 0 h (omega arith),
+      count_by-ended (λ trace. eqb (occurrences nat_eq a trace) (k + 1)) e c,
+    ))
 
 pub exact-absent : (a : ℕ) (e : List (List ℕ)) (c : List ℕ) → occurrences nat_eq a c ≡ 0 → exact_of a e ≡ exact_of a (e ++ c ∷ [])
 exact-absent a e c none =
@@ -37,8 +40,11 @@ exact-absent a e c none =
 
 pub exact-le : (a : ℕ) (e : List (List ℕ)) (k : ℕ) → get_or (exact_of a e) k 0 ≤ length e
 exact-le a e k = ⊎_elim
-    (λ inside. omega (arith, get_or-map-range_with_len (λ j. count_by (λ trace. eqb (occurrences nat_eq a trace) (j + 1)) e) 0 9 k k 0 inside (omega arith),
-    count_by-le-length (λ trace. eqb (occurrences nat_eq a trace) (k + 1)) e))
+    (λ inside. omega (
+      arith,
+      get_or-map-range_with_len (λ j. count_by (λ trace. eqb (occurrences nat_eq a trace) (j + 1)) e) 0 9 k k 0 inside (omega arith),
+      count_by-le-length (λ trace. eqb (occurrences nat_eq a trace) (k + 1)) e,
+    ))
     (λ past. omega (arith, get_or_past (exact_of a e) k 0 past)) (split k)
   where
     split : (k : ℕ) → (k < 9) ⊎ (9 ≤ k)

@@ -1,5 +1,5 @@
 -- Counters of one log bound each other, so a template's sums and differences fit.
-use Rattle.std.proofs.Common.{ℕ, ◌+◌, ◌≤◌, List, ◌&&◌, length, sum_by, count_by, nat_eq, sym, subst, arith}
+use Rattle.std.proofs.Common.{ℕ, ◌+◌, ◌≤◌, List, ◌&&◌, length, sum_by, count_by, nat_lt, nat_eq, sym, subst, arith}
 use Rattle.std.proofs.lemmas.List.Sums.{count_by-le-length, sum_by-le-sum_by}
 use Rattle.template_core.specs.Events.{occurs}
 use Rattle.template_core.specs.Tests.{failing, has, has_next, has_previous}
@@ -32,6 +32,7 @@ pub record PairBounds (first : UnaryCounts) (pair : PairCounts) : Type 0 where
 pub record Bounds (counts : Counts) : Type 0 where
   pub onward : PairBounds counts.first counts.onward
   pub back : PairBounds counts.second counts.back
+  pub traces : counts.first.traces ≤ counts.traces
   pub repeated : counts.first.repeated ≤ counts.traces
 
 few_occurrences : (a : ℕ) (log : List (List ℕ)) → sum_by (λ trace. length trace) log ≤ 16777215 → sum_by (occurrences nat_eq a) log ≤ 16777215
@@ -80,13 +81,11 @@ either_bounds (Relation activation) a b log h g = pair_bounds a b log h g
 either_bounds Mutual a b log h g = pair_bounds a b log h g
 either_bounds Negative a b log h g = pair_bounds a b log h g
 
-repeated-le : (a : ℕ) (log : List (List ℕ)) → (unary_counts a log).repeated ≤ length log
-repeated-le a log = count_by-le-length _ log
-
 pub bounds_of : (kind : Kind) (counts : Counts) → AreCounts kind counts → Bounds counts
 bounds_of kind counts h =
     subst Bounds (sym h.are) (record {
       onward = either_bounds (group_of kind) h.a h.b h.log h.few_events h.few_traces;
       back = either_bounds (group_of kind) h.b h.a h.log h.few_events h.few_traces;
-      repeated = repeated-le h.a h.log;
+      traces = count_by-le-length (occurs nat_eq h.a) h.log;
+      repeated = count_by-le-length (λ trace. nat_lt 1 (occurrences nat_eq h.a trace)) h.log;
     })

@@ -1,6 +1,6 @@
 -- The repertoire and the counters, in words of places of the whole trace.
-use Rattle.std.proofs.Common.{◌≡◌, ◌≢◌, ◌↔◌, ◌⊎◌, ℕ, zero, suc, ◌+◌, ◌-◌, ◌<◌, ◌≤◌, List, [], ◌∷◌, ◌++◌, Bool, true, false, ◌&&◌, ◌||◌, not, cond, eqb, nat_lt, Some, length, take, slice_get, nat_eq, refl, sym, ap, subst, ◌∙◌, arith, ⊎_elim, inl, inr, length-append}
-use Rattle.std.proofs.lemmas.Bool.{false≢true, eqb-true, eq-eqb, ne_eqb, or_cases, or_left, or_right}
+use Rattle.std.proofs.Common.{◌≡◌, ◌≢◌, ◌↔◌, ◌⊎◌, ℕ, zero, suc, ◌+◌, ◌-◌, ◌<◌, ◌≤◌, List, [], ◌∷◌, ◌++◌, Bool, true, false, ◌&&◌, ◌||◌, not, cond, eqb, nat_lt, nat_le, Some, length, take, slice_get, nat_eq, refl, sym, ap, subst, ◌∙◌, arith, ⊎_elim, inl, inr, length-append}
+use Rattle.std.proofs.lemmas.Bool.{false≢true, eqb-true, eq-eqb, ne_eqb, leb-true, le-leb, or_cases, or_left, or_right}
 use Rattle.std.proofs.lemmas.Bool.Decides.{nat_tests}
 use Rattle.std.proofs.lemmas.List.Folds.{list_any-append}
 use Rattle.std.proofs.lemmas.Option.{slice_get_within, none-some}
@@ -8,7 +8,7 @@ use Rattle.std.proofs.Math.ListN.{drop_of_length-le}
 use Rattle.std.proofs.Math.Seq.{drop-append_seam}
 use Rattle.template_core.proofs.Counters.{occurrences-snoc}
 use Rattle.template_core.proofs.Gains.{occurs-count}
-use Rattle.template_core.proofs.Places.{take-seam, snoc_induction, count_events-nil}
+use Rattle.template_core.proofs.Places.{take-seam, snoc_induction, count_places-same, count_events-nil}
 use Rattle.template_core.proofs.Zipper.{get-front, get-back, occurs-some, not-iff, and-iff, first-is, last-is, alternates-iff, repeats-iff, alternates_back-iff, repeats_back-iff, snoc-old, snoc-new, snoc-cases}
 use Rattle.template_core.specs.Constraints.{IsWellMade}
 use Rattle.template_core.specs.Counters.{occurrences, without, no_later, no_earlier, next, previous, rep_later, rep_earlier}
@@ -20,7 +20,7 @@ use Rattle.template_core.specs.Groups.{group_of, activation_of}
 use Rattle.template_core.specs.declared.group.Group.{Group}
 use Rattle.template_core.specs.declared.group.Group.TheVariants.{Existence, Relation, Mutual, Negative}
 use Rattle.template_core.specs.declared.kind.Kind.{Kind}
-use Rattle.template_core.specs.declared.kind.Kind.TheVariants.{Init, End, Participation, AtMostOne, ChainSuccession, AlternateSuccession, Succession, CoExistence, ChainResponse, AlternateResponse, Response, ChainPrecedence, AlternatePrecedence, Precedence, RespondedExistence, NotCoExistence, NotSuccession, NotChainSuccession}
+use Rattle.template_core.specs.declared.kind.Kind.TheVariants.{Init, End, Participation, AtMostOne, ChainSuccession, AlternateSuccession, Succession, CoExistence, ChainResponse, AlternateResponse, Response, ChainPrecedence, AlternatePrecedence, Precedence, RespondedExistence, NotCoExistence, NotSuccession, NotChainSuccession, Exactly, AtLeast, AtMost, NotRespondedExistence, NotResponse, NotPrecedence, NotChainResponse, NotChainPrecedence}
 
 chain : {P Q : Type 0} {x : Bool} → x ≡ true ↔ P → P ↔ Q → x ≡ true ↔ Q
 chain h g = (λ e. g.0 (h.0 e), λ q. h.1 (g.1 q))
@@ -295,6 +295,26 @@ no : (p : List ℕ → ℕ → List ℕ → Bool) (Q : List ℕ → ℕ → Type
     → (before : List ℕ) (e : ℕ) (after : List ℕ) → none nat_eq p before e after ≡ true ↔ (¬ Q (before ++ e ∷ after) (length before))
 no p Q h before e after = not-iff (p before e after) (Q (before ++ e ∷ after) (length before)) (h before e after)
 
+pub occurrences-places : (a : ℕ) (trace : List ℕ) → CountsPlaces (EventIs a trace) trace (occurrences nat_eq a trace)
+occurrences-places a trace = (at_place (each nat_eq a) trace, λ i lt. each-iff a trace i, refl)
+
+-- they have one number
+occurrences-places-only : (a : ℕ) (trace : List ℕ) (k : ℕ) → CountsPlaces (EventIs a trace) trace k → k ≡ occurrences nat_eq a trace
+occurrences-places-only a trace k r = r.2 ∙ count_places-same r.0 (at_place (each nat_eq a) trace) (length trace) (λ i lt. alike _ _ (r.1 i lt) (each-iff a trace i))
+  where
+    alike : {Q : Type 0} (x y : Bool) → x ≡ true ↔ Q → y ≡ true ↔ Q → x ≡ y
+    alike true y h g = sym (g.1 (h.0 refl))
+    alike false true h g = h.1 (g.0 refl)
+    alike false false h g = refl
+
+pub exactly-iff : (a : ℕ) (trace : List ℕ) (n : ℕ) → eqb (occurrences nat_eq a trace) n ≡ true ↔ CountsPlaces (EventIs a trace) trace n
+exactly-iff a trace n = (λ e. subst (CountsPlaces (EventIs a trace) trace) (eqb-true _ n e) (occurrences-places a trace), λ r. eq-eqb _ n (sym (occurrences-places-only a trace n r)))
+
+-- a fact of their number
+counted-iff : (a : ℕ) (trace : List ℕ) (x : Bool) (P : ℕ → Type 0) → x ≡ true ↔ P (occurrences nat_eq a trace)
+    → x ≡ true ↔ ((k : ℕ) × CountsPlaces (EventIs a trace) trace k × P k)
+counted-iff a trace x P h = (λ e. (occurrences nat_eq a trace, occurrences-places a trace, h.0 e), λ r. h.1 (subst P (occurrences-places-only a trace r.0 r.1) r.2))
+
 pub fulfilled-iff : (kind : Kind) (a b : ℕ) (trace : List ℕ) (i : ℕ) → IsWellMade kind a b → ActivatedAt kind a b trace i
     → is_fulfilled nat_eq kind a b trace i ≡ true ↔ FulfilledAt kind a b trace i
 fulfilled-iff Init a b trace i made active =
@@ -333,6 +353,22 @@ fulfilled-iff NotSuccession a b trace i made active =
     at_either a b made (none nat_eq (has_later nat_eq b)) (none nat_eq (has_earlier nat_eq a)) (λ t i. ¬ LaterIs b t i) (λ t i. ¬ EarlierIs a t i) (no (has_later nat_eq b) (LaterIs b) (λ before e after. later before e after b)) (no (has_earlier nat_eq a) (EarlierIs a) (λ before e after. earlier before e after a)) trace i active
 fulfilled-iff NotChainSuccession a b trace i made active =
     at_either a b made (none nat_eq (has_next nat_eq b)) (none nat_eq (has_previous nat_eq a)) (λ t i. ¬ EventIs b t (i + 1)) (λ t i. ¬ PreviousIs a t i) (no (has_next nat_eq b) (λ t i. EventIs b t (i + 1)) (λ before e after. following before e after b)) (no (has_previous nat_eq a) (PreviousIs a) (λ before e after. preceding before e after a)) trace i active
+fulfilled-iff (Exactly n) a b trace i made active =
+    exactly-iff a trace n
+fulfilled-iff (AtLeast n) a b trace i made active =
+    counted-iff a trace (nat_le n (occurrences nat_eq a trace)) (λ k. n ≤ k) (leb-true n _, le-leb n _)
+fulfilled-iff (AtMost n) a b trace i made active =
+    counted-iff a trace (nat_le (occurrences nat_eq a trace) n) (λ k. k ≤ n) (leb-true _ n, le-leb _ n)
+fulfilled-iff NotRespondedExistence a b trace i made active =
+    at_one a (none nat_eq (has nat_eq b)) (λ t i. ¬ SomeIs b t) (no (has nat_eq b) (λ t i. SomeIs b t) (λ before e after. some before e after b)) trace i active
+fulfilled-iff NotResponse a b trace i made active =
+    at_one a (none nat_eq (has_later nat_eq b)) (λ t i. ¬ LaterIs b t i) (no (has_later nat_eq b) (LaterIs b) (λ before e after. later before e after b)) trace i active
+fulfilled-iff NotPrecedence a b trace i made active =
+    at_one b (none nat_eq (has_earlier nat_eq a)) (λ t i. ¬ EarlierIs a t i) (no (has_earlier nat_eq a) (EarlierIs a) (λ before e after. earlier before e after a)) trace i active
+fulfilled-iff NotChainResponse a b trace i made active =
+    at_one a (none nat_eq (has_next nat_eq b)) (λ t i. ¬ EventIs b t (i + 1)) (no (has_next nat_eq b) (λ t i. EventIs b t (i + 1)) (λ before e after. following before e after b)) trace i active
+fulfilled-iff NotChainPrecedence a b trace i made active =
+    at_one b (none nat_eq (has_previous nat_eq a)) (λ t i. ¬ PreviousIs a t i) (no (has_previous nat_eq a) (PreviousIs a) (λ before e after. preceding before e after a)) trace i active
 
 -- a counter of the a's that pass a test
 counts : (a : ℕ) (test : List ℕ → ℕ → List ℕ → Bool) (Q : List ℕ → ℕ → Type 0)
@@ -343,9 +379,6 @@ counts a test Q each =
     (λ before e after.
     and-iff (nat_eq e a) (test before e after) (EventIs a (before ++ e ∷ after) (length before)) (Q (before ++ e ∷ after) (length before)) (is-here before e after a) (each before e after))
     (λ t i h r. no_event a t i h r.0)
-
-pub occurrences-places : (a : ℕ) (trace : List ℕ) → CountsPlaces (EventIs a trace) trace (occurrences nat_eq a trace)
-occurrences-places a trace = (at_place (each nat_eq a) trace, λ i lt. each-iff a trace i, refl)
 
 pub without-places : (a b : ℕ) (trace : List ℕ) → CountsPlaces (WithoutAt a b trace) trace (without nat_eq a b trace)
 without-places a b trace =

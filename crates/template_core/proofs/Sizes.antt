@@ -3,6 +3,7 @@ use Rattle.std.proofs.Common.{◌≢◌, ℕ, zero, suc, ◌+◌, ◌<◌, ◌�
 use Rattle.std.proofs.lemmas.List.Sums.{sum_by-le-sum_by, count_by-le-length}
 use Rattle.template_core.proofs.Gains.{count_places-le, occurrences-le-length}
 use Rattle.template_core.proofs.Laws.{sum_by-plus}
+use Rattle.template_core.proofs.Made.{made-in}
 use Rattle.template_core.proofs.Parts.{each_a, each_of_both, each_of_count}
 use Rattle.template_core.proofs.Runs.{apart}
 use Rattle.template_core.proofs.Wholes.{whole_places}
@@ -52,7 +53,7 @@ positive_in Negative a b log made h g = omega (arith, h, each_of_both nat_eq a b
 -- a constraint whose activities have an event each is activated somewhere
 pub activated-positive : (kind : Kind) (a b : ℕ) (log : List (List ℕ)) → IsWellMade kind a b
     → 0 < sum_by (occurrences nat_eq a) log → 0 < sum_by (occurrences nat_eq b) log → 0 < activated nat_eq kind a b log
-activated-positive kind a b log made h g = positive_in (group_of kind) a b log made h g
+activated-positive kind a b log made h g = positive_in (group_of kind) a b log (made-in kind a b made) h g
 
 events_of : (a : ℕ) (log : List (List ℕ)) → sum_by (occurrences nat_eq a) log ≤ sum_by (λ trace. length trace) log
 events_of a log = sum_by-le-sum_by (occurrences nat_eq a) (λ trace. length trace) log (λ t. occurrences-le-length nat_eq a t)
@@ -79,7 +80,7 @@ le_in Negative a b log made most h g = omega (arith, g, events_of_both a b made 
 -- the activated places are at most the traces, or at most the events
 pub activated-le : (kind : Kind) (a b : ℕ) (log : List (List ℕ)) → IsWellMade kind a b → (most : ℕ)
     → length log ≤ most → sum_by (λ trace. length trace) log ≤ most → activated nat_eq kind a b log ≤ most
-activated-le kind a b log made most h g = le_in (group_of kind) a b log made most h g
+activated-le kind a b log made most h g = le_in (group_of kind) a b log (made-in kind a b made) most h g
 
 module _ {A : Type 0} (same : A → A → Bool) where
   traces_in-le : (group : Group) (a b : A) (log : List (List A)) → traces_in same group a b log ≤ length log

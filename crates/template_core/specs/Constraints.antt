@@ -1,11 +1,11 @@
 -- Which activities a constraint may have.
-use Rattle.std.specs.Prelude.{◌≡◌, ◌≢◌, ℕ, ◌<◌}
+use Rattle.std.specs.Prelude.{◌≡◌, ◌≢◌, ℕ, ◌+◌, ◌-◌, ◌<◌, ◌≤◌, ⊤}
 use Rattle.template_core.specs.Groups.{group_of, activities_of}
 use Rattle.template_core.specs.declared.group.Group.{Group}
 use Rattle.template_core.specs.declared.group.Group.TheVariants.{Existence, Relation, Mutual, Negative}
 use Rattle.template_core.specs.declared.constraint.Constraint.{Constraint}
 use Rattle.template_core.specs.declared.kind.Kind.{Kind}
-use Rattle.template_core.specs.declared.kind.Kind.TheVariants.{Init, End, Participation, AtMostOne, ChainSuccession, AlternateSuccession, Succession, CoExistence, ChainResponse, AlternateResponse, Response, ChainPrecedence, AlternatePrecedence, Precedence, RespondedExistence, NotCoExistence, NotSuccession, NotChainSuccession}
+use Rattle.template_core.specs.declared.kind.Kind.TheVariants.{Init, End, Participation, AtMostOne, ChainSuccession, AlternateSuccession, Succession, CoExistence, ChainResponse, AlternateResponse, Response, ChainPrecedence, AlternatePrecedence, Precedence, RespondedExistence, NotCoExistence, NotSuccession, NotChainSuccession, Exactly, AtLeast, AtMost, NotRespondedExistence, NotResponse, NotPrecedence, NotChainResponse, NotChainPrecedence}
 
 -- the number of a template's activities
 abbrev pub arity : Kind → ℕ
@@ -31,6 +31,21 @@ number_of RespondedExistence = 15
 number_of NotCoExistence = 16
 number_of NotSuccession = 17
 number_of NotChainSuccession = 18
+number_of (Exactly n) = 18 + n
+number_of (AtLeast n) = 37 - n
+number_of (AtMost n) = 36 + n
+number_of NotRespondedExistence = 46
+number_of NotResponse = 47
+number_of NotPrecedence = 48
+number_of NotChainResponse = 49
+number_of NotChainPrecedence = 50
+
+-- the number of events in the name of a counted template is 1 to 9
+abbrev pub IsTemplate : Kind → Type 0
+IsTemplate (Exactly n) = (1 ≤ n) × (n ≤ 9)
+IsTemplate (AtLeast n) = (1 ≤ n) × (n ≤ 9)
+IsTemplate (AtMost n) = (1 ≤ n) × (n ≤ 9)
+IsTemplate kind = ⊤
 
 -- a template of two activities has two different ones; of a template of one activity both numbers are that one
 abbrev pub IsWellMadeIn : Group → ℕ → ℕ → Type 0
@@ -39,7 +54,11 @@ IsWellMadeIn (Relation activation) a b = a ≢ b
 IsWellMadeIn Mutual a b = a ≢ b
 IsWellMadeIn Negative a b = a ≢ b
 
+-- and the number of a counted template is one of its numbers
 abbrev pub IsWellMade : Kind → ℕ → ℕ → Type 0
+IsWellMade (Exactly n) a b = (a ≡ b) × IsTemplate (Exactly n)
+IsWellMade (AtLeast n) a b = (a ≡ b) × IsTemplate (AtLeast n)
+IsWellMade (AtMost n) a b = (a ≡ b) × IsTemplate (AtMost n)
 IsWellMade kind a b = IsWellMadeIn (group_of kind) a b
 
 -- a constraint over n activities

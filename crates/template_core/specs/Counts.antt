@@ -1,5 +1,6 @@
 -- The counters of a log, and its numbers of traces that the scores take.
-use Rattle.std.specs.Prelude.{◌≡◌, ℕ, ◌≤◌, List, Bool, length, count_by, sum_by, min, ◌&&◌, ◌||◌, nat_lt, nat_eq}
+use Rattle.std.specs.Prelude.{◌≡◌, ℕ, ◌+◌, ◌≤◌, List, Bool, ◌==◌, map, length, count_by, sum_by, min, ◌&&◌, ◌||◌, nat_lt, nat_eq}
+use Rattle.std.specs.List.{range_with_len}
 use Rattle.template_core.specs.Constraints.{IsWellMade}
 use Rattle.template_core.specs.Counters.{occurrences, without, no_later, no_earlier, next, previous, rep_later, rep_earlier}
 use Rattle.template_core.specs.Events.{occurs, is_first, is_last}
@@ -11,7 +12,8 @@ use Rattle.template_core.specs.declared.counts.PairCounts.{PairCounts}
 use Rattle.template_core.specs.declared.counts.UnaryCounts.{UnaryCounts}
 use Rattle.template_core.specs.declared.kind.Kind.{Kind}
 
--- the counters of an activity: its events; the traces with it, with two or more of it, that begin with it, that end with it
+-- the counters of an activity: its events; the traces with it, with two or more of it, that begin with it, that end with it;
+-- and at each place k from 0 to 8, the traces with exactly k + 1 of it
 abbrev pub unary_counts : ℕ → List (List ℕ) → UnaryCounts
 unary_counts a log = record {
   occurrences = sum_by (occurrences nat_eq a) log;
@@ -19,6 +21,7 @@ unary_counts a log = record {
   repeated = count_by (λ trace. nat_lt 1 (occurrences nat_eq a trace)) log;
   first = count_by (is_first nat_eq a) log;
   last = count_by (is_last nat_eq a) log;
+  exact = map (λ k. count_by (λ trace. occurrences nat_eq a trace == k + 1) log) (range_with_len 0 9);
 }
 
 -- the counters of an ordered pair of activities: a's of all traces, and the traces with both

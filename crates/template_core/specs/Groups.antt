@@ -5,7 +5,7 @@ use Rattle.template_core.specs.declared.group.Activation.TheVariants as by
 use Rattle.template_core.specs.declared.group.Group.{Group}
 use Rattle.template_core.specs.declared.group.Group.TheVariants.{Existence, Relation, Mutual, Negative}
 use Rattle.template_core.specs.declared.kind.Kind.{Kind}
-use Rattle.template_core.specs.declared.kind.Kind.TheVariants.{Init, End, Participation, AtMostOne, ChainSuccession, AlternateSuccession, Succession, CoExistence, ChainResponse, AlternateResponse, Response, ChainPrecedence, AlternatePrecedence, Precedence, RespondedExistence, NotCoExistence, NotSuccession, NotChainSuccession}
+use Rattle.template_core.specs.declared.kind.Kind.TheVariants.{Init, End, Participation, AtMostOne, ChainSuccession, AlternateSuccession, Succession, CoExistence, ChainResponse, AlternateResponse, Response, ChainPrecedence, AlternatePrecedence, Precedence, RespondedExistence, NotCoExistence, NotSuccession, NotChainSuccession, Exactly, AtLeast, AtMost, NotRespondedExistence, NotResponse, NotPrecedence, NotChainResponse, NotChainPrecedence}
 
 -- the group of a template, and of a relation template which activity activates it
 abbrev pub group_of : Kind → Group
@@ -27,6 +27,14 @@ group_of RespondedExistence = Relation by.First
 group_of NotCoExistence = Negative
 group_of NotSuccession = Negative
 group_of NotChainSuccession = Negative
+group_of (Exactly n) = Existence
+group_of (AtLeast n) = Existence
+group_of (AtMost n) = Existence
+group_of NotRespondedExistence = Relation by.First
+group_of NotResponse = Relation by.First
+group_of NotPrecedence = Relation by.Second
+group_of NotChainResponse = Relation by.First
+group_of NotChainPrecedence = Relation by.Second
 
 -- the activation and the target of a relation template over a and b
 abbrev pub activation_of : {A : Type 0} → Activation → A → A → A

@@ -1,11 +1,11 @@
 -- The repertoire and the counters in words of places: i, j and k are places of the whole trace.
-use Rattle.std.specs.Prelude.{◌≡◌, ◌↔◌, ◌⊎◌, ℕ, ◌+◌, ◌-◌, ◌<◌, List, Bool, true, Some, length, slice_get}
+use Rattle.std.specs.Prelude.{◌≡◌, ◌↔◌, ◌⊎◌, ℕ, ◌+◌, ◌-◌, ◌<◌, ◌≤◌, List, Bool, true, Some, length, slice_get}
 use Rattle.template_core.specs.Events.{count_places}
 use Rattle.template_core.specs.Groups.{group_of, activation_of}
 use Rattle.template_core.specs.declared.group.Group.{Group}
 use Rattle.template_core.specs.declared.group.Group.TheVariants.{Existence, Relation, Mutual, Negative}
 use Rattle.template_core.specs.declared.kind.Kind.{Kind}
-use Rattle.template_core.specs.declared.kind.Kind.TheVariants.{Init, End, Participation, AtMostOne, ChainSuccession, AlternateSuccession, Succession, CoExistence, ChainResponse, AlternateResponse, Response, ChainPrecedence, AlternatePrecedence, Precedence, RespondedExistence, NotCoExistence, NotSuccession, NotChainSuccession}
+use Rattle.template_core.specs.declared.kind.Kind.TheVariants.{Init, End, Participation, AtMostOne, ChainSuccession, AlternateSuccession, Succession, CoExistence, ChainResponse, AlternateResponse, Response, ChainPrecedence, AlternatePrecedence, Precedence, RespondedExistence, NotCoExistence, NotSuccession, NotChainSuccession, Exactly, AtLeast, AtMost, NotRespondedExistence, NotResponse, NotPrecedence, NotChainResponse, NotChainPrecedence}
 
 module _ {A : Type 0} where
   -- event i is there and is a
@@ -46,6 +46,11 @@ module _ {A : Type 0} where
   abbrev pub AtEach : A → A → (ℕ → Type 0) → (ℕ → Type 0) → List A → ℕ → Type 0
   AtEach a b P Q trace i = (EventIs a trace i → P i) × (EventIs b trace i → Q i)
 
+  -- the number of a trace's events at whose places P holds
+  abbrev pub CountsPlaces : (ℕ → Type 0) → List A → ℕ → Type 0
+  CountsPlaces P trace n =
+      (test : ℕ → Bool) × ((i : ℕ) → i < length trace → test i ≡ true ↔ P i) × (n ≡ count_places test (length trace))
+
   -- the place is activated: templates of one activity, relation templates, mutual and negative templates
   abbrev pub ActivatedIn : Group → A → A → List A → ℕ → Type 0
   ActivatedIn Existence a b trace i = i ≡ length trace
@@ -76,6 +81,14 @@ module _ {A : Type 0} where
   FulfilledAt NotCoExistence a b trace i = AtEach a b (λ i. ¬ SomeIs b trace) (λ i. ¬ SomeIs a trace) trace i
   FulfilledAt NotSuccession a b trace i = AtEach a b (λ i. ¬ LaterIs b trace i) (λ i. ¬ EarlierIs a trace i) trace i
   FulfilledAt NotChainSuccession a b trace i = AtEach a b (λ i. ¬ EventIs b trace (i + 1)) (λ i. ¬ PreviousIs a trace i) trace i
+  FulfilledAt (Exactly n) a b trace i = CountsPlaces (EventIs a trace) trace n
+  FulfilledAt (AtLeast n) a b trace i = (k : ℕ) × CountsPlaces (EventIs a trace) trace k × (n ≤ k)
+  FulfilledAt (AtMost n) a b trace i = (k : ℕ) × CountsPlaces (EventIs a trace) trace k × (k ≤ n)
+  FulfilledAt NotRespondedExistence a b trace i = ¬ SomeIs b trace
+  FulfilledAt NotResponse a b trace i = ¬ LaterIs b trace i
+  FulfilledAt NotPrecedence a b trace i = ¬ EarlierIs a trace i
+  FulfilledAt NotChainResponse a b trace i = ¬ EventIs b trace (i + 1)
+  FulfilledAt NotChainPrecedence a b trace i = ¬ PreviousIs a trace i
 
   -- the a's that the counters of an ordered pair count
   abbrev pub WithoutAt : A → A → List A → ℕ → Type 0
@@ -109,8 +122,3 @@ module _ {A : Type 0} where
   -- two different events are a
   abbrev pub TwoAre : A → List A → Type 0
   TwoAre a trace = (j : ℕ) × (k : ℕ) × (j < k) × EventIs a trace j × EventIs a trace k
-
-  -- the number of a trace's events at whose places P holds
-  abbrev pub CountsPlaces : (ℕ → Type 0) → List A → ℕ → Type 0
-  CountsPlaces P trace n =
-      (test : ℕ → Bool) × ((i : ℕ) → i < length trace → test i ≡ true ↔ P i) × (n ≡ count_places test (length trace))

@@ -1,6 +1,6 @@
 -- The repertoire: at which places of a trace a constraint is activated, and where it is fulfilled.
 -- A trace of n events has the places 0 to n - 1, which are its events, and the place n, which stands for the whole trace.
-use Rattle.std.specs.Prelude.{◌≡◌, ℕ, suc, ◌≤◌, List, Bool, true, ◌&&◌, ◌||◌, not, if◌then◌else◌, ◌==◌, length, filter, sum_by, nat_lt}
+use Rattle.std.specs.Prelude.{◌≡◌, ℕ, suc, ◌≤◌, List, Bool, true, ◌&&◌, ◌||◌, not, if◌then◌else◌, ◌==◌, length, filter, sum_by, nat_lt, nat_le}
 use Rattle.std.specs.List.{range_with_len}
 use Rattle.template_core.specs.Counters.{occurrences}
 use Rattle.template_core.specs.Events.{count_places, all_places, at_place, occurs, is_first, is_last, before_first, after_last}
@@ -9,7 +9,7 @@ use Rattle.template_core.specs.Groups.{group_of, activation_of}
 use Rattle.template_core.specs.declared.group.Group.{Group}
 use Rattle.template_core.specs.declared.group.Group.TheVariants.{Existence, Relation, Mutual, Negative}
 use Rattle.template_core.specs.declared.kind.Kind.{Kind}
-use Rattle.template_core.specs.declared.kind.Kind.TheVariants.{Init, End, Participation, AtMostOne, ChainSuccession, AlternateSuccession, Succession, CoExistence, ChainResponse, AlternateResponse, Response, ChainPrecedence, AlternatePrecedence, Precedence, RespondedExistence, NotCoExistence, NotSuccession, NotChainSuccession}
+use Rattle.template_core.specs.declared.kind.Kind.TheVariants.{Init, End, Participation, AtMostOne, ChainSuccession, AlternateSuccession, Succession, CoExistence, ChainResponse, AlternateResponse, Response, ChainPrecedence, AlternatePrecedence, Precedence, RespondedExistence, NotCoExistence, NotSuccession, NotChainSuccession, Exactly, AtLeast, AtMost, NotRespondedExistence, NotResponse, NotPrecedence, NotChainResponse, NotChainPrecedence}
 
 module _ {A : Type 0} (same : A → A → Bool) where
   -- the event is a; the event is a or b
@@ -44,7 +44,8 @@ module _ {A : Type 0} (same : A → A → Bool) where
   abbrev pub is_activated : Kind → A → A → List A → ℕ → Bool
   is_activated kind a b trace place = is_activated_in (group_of kind) a b trace place
 
-  -- where such a place is fulfilled: the trace begins with a; ends with a; has an a; has no two; the others by the event and those around it
+  -- where such a place is fulfilled: the trace begins with a; ends with a; has an a; has no two; the others by the event and those around it,
+  -- but the counted ones, where the trace has exactly n a's, at least n, or at most n
   abbrev pub is_fulfilled : Kind → A → A → List A → ℕ → Bool
   is_fulfilled Init a b trace place = is_first same a trace
   is_fulfilled End a b trace place = is_last same a trace
@@ -64,6 +65,14 @@ module _ {A : Type 0} (same : A → A → Bool) where
   is_fulfilled NotCoExistence a b trace place = at_place (at_first a (none (has same b)) (none (has same a))) trace place
   is_fulfilled NotSuccession a b trace place = at_place (at_first a (none (has_later same b)) (none (has_earlier same a))) trace place
   is_fulfilled NotChainSuccession a b trace place = at_place (at_first a (none (has_next same b)) (none (has_previous same a))) trace place
+  is_fulfilled (Exactly n) a b trace place = occurrences same a trace == n
+  is_fulfilled (AtLeast n) a b trace place = nat_le n (occurrences same a trace)
+  is_fulfilled (AtMost n) a b trace place = nat_le (occurrences same a trace) n
+  is_fulfilled NotRespondedExistence a b trace place = at_place (none (has same b)) trace place
+  is_fulfilled NotResponse a b trace place = at_place (none (has_later same b)) trace place
+  is_fulfilled NotPrecedence a b trace place = at_place (none (has_earlier same a)) trace place
+  is_fulfilled NotChainResponse a b trace place = at_place (none (has_next same b)) trace place
+  is_fulfilled NotChainPrecedence a b trace place = at_place (none (has_previous same a)) trace place
 
   -- a trace keeps a constraint where each activated place is fulfilled
   abbrev pub Keeps : Kind → A → A → List A → Type 0

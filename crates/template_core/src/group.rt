@@ -28,14 +28,27 @@ pub fn group_of(kind: Kind) -> Group
     ensures { result ≡ group_of kind }
 {
     match kind {
-        Kind::Init | Kind::End | Kind::Participation | Kind::AtMostOne => Group::Existence,
+        Kind::Init
+        | Kind::End
+        | Kind::Participation
+        | Kind::AtMostOne
+        | Kind::Exactly { .. }
+        | Kind::AtLeast { .. }
+        | Kind::AtMost { .. } => Group::Existence,
         Kind::ChainSuccession | Kind::AlternateSuccession | Kind::Succession | Kind::CoExistence =>
             Group::Mutual,
-        Kind::ChainResponse | Kind::AlternateResponse | Kind::Response | Kind::RespondedExistence =>
-            Group::Relation(Activation::First),
-        Kind::ChainPrecedence | Kind::AlternatePrecedence | Kind::Precedence => Group::Relation(
-            Activation::Second,
-        ),
+        Kind::ChainResponse
+        | Kind::AlternateResponse
+        | Kind::Response
+        | Kind::RespondedExistence
+        | Kind::NotRespondedExistence
+        | Kind::NotResponse
+        | Kind::NotChainResponse => Group::Relation(Activation::First),
+        Kind::ChainPrecedence
+        | Kind::AlternatePrecedence
+        | Kind::Precedence
+        | Kind::NotPrecedence
+        | Kind::NotChainPrecedence => Group::Relation(Activation::Second),
         Kind::NotCoExistence | Kind::NotSuccession | Kind::NotChainSuccession => Group::Negative,
     }
 }

@@ -4,7 +4,7 @@ ghost use Rattle.std.specs.Prelude.{◌≡◌, ℕ, List, [], ◌∷◌, nat_eq}
 ghost use Rattle.template_core.specs.Counts.{unary_counts, pair_counts};
 ghost use Rattle.template_core.specs.Repertoire.{activated_places, fulfilled_places};
 ghost use Rattle.template_core.specs.declared.kind.Kind.{Kind as KindOf};
-ghost use Rattle.template_core.specs.declared.kind.Kind.TheVariants.{Init, End, Participation, AtMostOne, ChainSuccession, AlternateSuccession, Succession, CoExistence, ChainResponse, AlternateResponse, Response, ChainPrecedence, AlternatePrecedence, Precedence, RespondedExistence, NotCoExistence, NotSuccession, NotChainSuccession};
+ghost use Rattle.template_core.specs.declared.kind.Kind.TheVariants.{Init, End, Participation, AtMostOne, ChainSuccession, AlternateSuccession, Succession, CoExistence, ChainResponse, AlternateResponse, Response, ChainPrecedence, AlternatePrecedence, Precedence, RespondedExistence, NotCoExistence, NotSuccession, NotChainSuccession, Exactly, AtLeast, AtMost, NotRespondedExistence, NotResponse, NotPrecedence, NotChainResponse, NotChainPrecedence};
 
 #[tactic(auto, unfolding(crate::specs::Events::count_places))]
 fn rows_on_aacb()
@@ -13,7 +13,9 @@ fn rows_on_aacb()
         × (at ChainSuccession ≡ 0 ∷ 1 ∷ 3 ∷ []) × (at AlternateSuccession ≡ 0 ∷ 1 ∷ 3 ∷ []) × (at Succession ≡ 0 ∷ 1 ∷ 3 ∷ []) × (at CoExistence ≡ 0 ∷ 1 ∷ 3 ∷ [])
         × (at ChainResponse ≡ 0 ∷ 1 ∷ []) × (at AlternateResponse ≡ 0 ∷ 1 ∷ []) × (at Response ≡ 0 ∷ 1 ∷ []) × (at RespondedExistence ≡ 0 ∷ 1 ∷ [])
         × (at ChainPrecedence ≡ 3 ∷ []) × (at AlternatePrecedence ≡ 3 ∷ []) × (at Precedence ≡ 3 ∷ []) × (at NotCoExistence ≡ 0 ∷ 1 ∷ 3 ∷ [])
-        × (at NotSuccession ≡ 0 ∷ 1 ∷ 3 ∷ []) × (at NotChainSuccession ≡ 0 ∷ 1 ∷ 3 ∷ []) }
+        × (at NotSuccession ≡ 0 ∷ 1 ∷ 3 ∷ []) × (at NotChainSuccession ≡ 0 ∷ 1 ∷ 3 ∷ [])
+        × (at (Exactly 2) ≡ 4 ∷ []) × (at (AtLeast 3) ≡ 4 ∷ []) × (at (AtMost 1) ≡ 4 ∷ []) × (at NotRespondedExistence ≡ 0 ∷ 1 ∷ [])
+        × (at NotResponse ≡ 0 ∷ 1 ∷ []) × (at NotPrecedence ≡ 3 ∷ []) × (at NotChainResponse ≡ 0 ∷ 1 ∷ []) × (at NotChainPrecedence ≡ 3 ∷ []) }
     ensures existence { let at : KindOf → List ℕ = λ kind. fulfilled_places nat_eq kind 0 1 (0 ∷ 0 ∷ 2 ∷ 1 ∷ []) in
         (at Init ≡ 4 ∷ []) × (at End ≡ []) × (at Participation ≡ 4 ∷ []) × (at AtMostOne ≡ []) }
     ensures mutual { let at : KindOf → List ℕ = λ kind. fulfilled_places nat_eq kind 0 1 (0 ∷ 0 ∷ 2 ∷ 1 ∷ []) in
@@ -24,6 +26,14 @@ fn rows_on_aacb()
         (at ChainPrecedence ≡ []) × (at AlternatePrecedence ≡ 3 ∷ []) × (at Precedence ≡ 3 ∷ []) }
     ensures negative { let at : KindOf → List ℕ = λ kind. fulfilled_places nat_eq kind 0 1 (0 ∷ 0 ∷ 2 ∷ 1 ∷ []) in
         (at NotCoExistence ≡ []) × (at NotSuccession ≡ []) × (at NotChainSuccession ≡ 0 ∷ 1 ∷ 3 ∷ []) }
+    ensures one_sided { let at : KindOf → List ℕ = λ kind. fulfilled_places nat_eq kind 0 1 (0 ∷ 0 ∷ 2 ∷ 1 ∷ []) in
+        (at NotRespondedExistence ≡ []) × (at NotResponse ≡ []) × (at NotPrecedence ≡ []) × (at NotChainResponse ≡ 0 ∷ 1 ∷ []) × (at NotChainPrecedence ≡ 3 ∷ []) }
+    ensures exactly { let at : KindOf → List ℕ = λ kind. fulfilled_places nat_eq kind 0 1 (0 ∷ 0 ∷ 2 ∷ 1 ∷ []) in
+        (at (Exactly 1) ≡ []) × (at (Exactly 2) ≡ 4 ∷ []) × (at (Exactly 3) ≡ []) × (at (Exactly 9) ≡ []) }
+    ensures at_least { let at : KindOf → List ℕ = λ kind. fulfilled_places nat_eq kind 0 1 (0 ∷ 0 ∷ 2 ∷ 1 ∷ []) in
+        (at (AtLeast 1) ≡ 4 ∷ []) × (at (AtLeast 2) ≡ 4 ∷ []) × (at (AtLeast 3) ≡ []) × (at (AtLeast 9) ≡ []) }
+    ensures at_most { let at : KindOf → List ℕ = λ kind. fulfilled_places nat_eq kind 0 1 (0 ∷ 0 ∷ 2 ∷ 1 ∷ []) in
+        (at (AtMost 1) ≡ []) × (at (AtMost 2) ≡ 4 ∷ []) × (at (AtMost 3) ≡ 4 ∷ []) × (at (AtMost 9) ≡ 4 ∷ []) }
 {}
 
 #[tactic(auto, unfolding(crate::specs::Events::count_places))]
@@ -38,6 +48,8 @@ fn rows_on_babb()
         (at ChainPrecedence ≡ 2 ∷ []) × (at AlternatePrecedence ≡ 2 ∷ []) × (at Precedence ≡ 2 ∷ 3 ∷ []) }
     ensures negative { let at : KindOf → List ℕ = λ kind. fulfilled_places nat_eq kind 0 1 (1 ∷ 0 ∷ 1 ∷ 1 ∷ []) in
         (at NotCoExistence ≡ []) × (at NotSuccession ≡ 0 ∷ []) × (at NotChainSuccession ≡ 0 ∷ 3 ∷ []) }
+    ensures one_sided { let at : KindOf → List ℕ = λ kind. fulfilled_places nat_eq kind 0 1 (1 ∷ 0 ∷ 1 ∷ 1 ∷ []) in
+        (at NotRespondedExistence ≡ []) × (at NotResponse ≡ []) × (at NotPrecedence ≡ 0 ∷ []) × (at NotChainResponse ≡ []) × (at NotChainPrecedence ≡ 0 ∷ 3 ∷ []) }
 {}
 
 #[tactic(auto, unfolding(crate::specs::Events::count_places))]
@@ -52,6 +64,8 @@ fn rows_on_ba()
         (at ChainPrecedence ≡ []) × (at AlternatePrecedence ≡ []) × (at Precedence ≡ []) }
     ensures negative { let at : KindOf → List ℕ = λ kind. fulfilled_places nat_eq kind 0 1 (1 ∷ 0 ∷ []) in
         (at NotCoExistence ≡ []) × (at NotSuccession ≡ 0 ∷ 1 ∷ []) × (at NotChainSuccession ≡ 0 ∷ 1 ∷ []) }
+    ensures one_sided { let at : KindOf → List ℕ = λ kind. fulfilled_places nat_eq kind 0 1 (1 ∷ 0 ∷ []) in
+        (at NotRespondedExistence ≡ []) × (at NotResponse ≡ 1 ∷ []) × (at NotPrecedence ≡ 0 ∷ []) × (at NotChainResponse ≡ 1 ∷ []) × (at NotChainPrecedence ≡ 0 ∷ []) }
 {}
 
 #[tactic(auto, unfolding(crate::specs::Events::count_places))]
@@ -60,6 +74,8 @@ fn rows_on_the_empty_trace()
         (at Init ≡ 0 ∷ []) × (at End ≡ 0 ∷ []) × (at Participation ≡ 0 ∷ []) × (at AtMostOne ≡ 0 ∷ []) × (at NotCoExistence ≡ []) × (at Response ≡ []) }
     ensures fulfilled { let at : KindOf → List ℕ = λ kind. fulfilled_places nat_eq kind 0 1 [] in
         (at Init ≡ []) × (at End ≡ []) × (at Participation ≡ []) × (at AtMostOne ≡ 0 ∷ []) × (at NotCoExistence ≡ []) × (at Response ≡ []) }
+    ensures counted { let at : KindOf → List ℕ = λ kind. fulfilled_places nat_eq kind 0 1 [] in
+        (at (Exactly 1) ≡ []) × (at (Exactly 9) ≡ []) × (at (AtLeast 1) ≡ []) × (at (AtLeast 9) ≡ []) × (at (AtMost 1) ≡ 0 ∷ []) × (at (AtMost 9) ≡ 0 ∷ []) }
 {}
 
 #[tactic(auto, unfolding(crate::specs::Events::count_places))]
@@ -78,6 +94,7 @@ fn counters_on_two_traces()
       repeated = 1;
       first = 1;
       last = 0;
+      exact = 1 ∷ 1 ∷ 0 ∷ 0 ∷ 0 ∷ 0 ∷ 0 ∷ 0 ∷ 0 ∷ [];
     } }
     ensures of_a_and_b { pair_counts 0 1 ((0 ∷ 0 ∷ 2 ∷ 1 ∷ []) ∷ (0 ∷ 2 ∷ []) ∷ []) ≡ record {
       without = 1;

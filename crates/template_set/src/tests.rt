@@ -1,4 +1,5 @@
 ghost use Rattle.std.specs.Prelude.{◌<◌};
+ghost use Rattle.template_core.specs.Constraints.{IsTemplate};
 ghost use Rattle.template_core.specs.Tables.{IsTable};
 
 use crate::{arity, keeps, kind_of, kinds, name, place_activated, place_holds, stronger, table_of};
@@ -23,7 +24,9 @@ fn accepts(table: &Table, number: u32, length: u32) -> bool
 }
 
 /// The words of up to five classes that a template's table accepts: how many, and the sum of their numbers.
-fn accepted(kind: Kind) -> (u32, u32) {
+fn accepted(kind: Kind) -> (u32, u32)
+    requires { IsTemplate kind }
+{
     let table = table_of(kind);
     let mut count: u32 = 0;
     let mut sum: u32 = 0;
@@ -41,28 +44,49 @@ fn accepted(kind: Kind) -> (u32, u32) {
 /// Against all words of up to five events that keep the template, by the definition.
 #[test]
 fn tables_accept_the_words_that_keep(rt: HostRuntime) {
-    for (kind, count, sum) in [
-        (Kind::Init, 121, 10890),
-        (Kind::End, 121, 3630),
-        (Kind::Participation, 301, 26082),
-        (Kind::AtMostOne, 192, 20175),
-        (Kind::ChainSuccession, 20, 1752),
-        (Kind::AlternateSuccession, 32, 3278),
-        (Kind::Succession, 88, 9787),
-        (Kind::CoExistence, 250, 22164),
-        (Kind::ChainResponse, 119, 13131),
-        (Kind::AlternateResponse, 144, 16392),
-        (Kind::Response, 185, 20847),
-        (Kind::ChainPrecedence, 119, 9281),
-        (Kind::AlternatePrecedence, 144, 12044),
-        (Kind::Precedence, 185, 16422),
-        (Kind::RespondedExistence, 307, 28757),
-        (Kind::NotCoExistence, 120, 11227),
-        (Kind::NotSuccession, 192, 16314),
-        (Kind::NotChainSuccession, 232, 20928),
+    for (name, count, sum) in [
+        ("Init", 121, 10890),
+        ("End", 121, 3630),
+        ("Participation", 301, 26082),
+        ("AtMostOne", 192, 20175),
+        ("ChainSuccession", 20, 1752),
+        ("AlternateSuccession", 32, 3278),
+        ("Succession", 88, 9787),
+        ("CoExistence", 250, 22164),
+        ("ChainResponse", 119, 13131),
+        ("AlternateResponse", 144, 16392),
+        ("Response", 185, 20847),
+        ("ChainPrecedence", 119, 9281),
+        ("AlternatePrecedence", 144, 12044),
+        ("Precedence", 185, 16422),
+        ("RespondedExistence", 307, 28757),
+        ("NotCoExistence", 120, 11227),
+        ("NotSuccession", 192, 16314),
+        ("NotChainSuccession", 232, 20928),
+        ("Exactly2", 111, 9471),
+        ("AtLeast4", 12, 363),
+        ("AtMost2", 303, 29646),
+        ("NotRespondedExistence", 120, 11227),
+        ("NotResponse", 192, 16314),
+        ("NotPrecedence", 192, 16314),
+        ("NotChainResponse", 232, 20928),
+        ("NotChainPrecedence", 232, 20928),
     ] {
-        assert_eq!(rt; accepted(kind), (count, sum), "{kind:?}");
+        let found = match kind_of(name) {
+            Some(kind) => accepted(kind),
+            None => (0, 0),
+        };
+        assert_eq!(rt; found, (count, sum), "{name}");
     }
+}
+
+/// Nine events of the activity are kept, and ten are not.
+#[test]
+fn the_longest_table_counts_to_ten(rt: HostRuntime) {
+    let table = table_of(Kind::AtMost { n: 9 });
+    assert_eq!(rt; table.states, 11);
+    assert!(rt; accepts(&table, 0, 9));
+    assert!(rt; !accepts(&table, 0, 10));
 }
 
 /// An a, an a and then a b: two a's respond to one b, which does for Response alone.
@@ -82,8 +106,16 @@ fn names_and_arities(rt: HostRuntime) {
             two = two.wrapping_add(1);
         }
     }
-    assert_eq!(rt; two, 14);
-    for text in ["participation", "Response ", "", "AtLeast2"] {
+    assert_eq!(rt; two, 19);
+    for text in [
+        "participation",
+        "Response ",
+        "",
+        "AtLeast",
+        "Exactly0",
+        "AtLeast10",
+        "exactly2",
+    ] {
         assert_eq!(rt; kind_of(text), None, "{text}");
     }
 }
@@ -115,7 +147,7 @@ fn below(kind: Kind) -> (u32, u32) {
 fn how_many_stand_below(rt: HostRuntime) {
     for (kind, counts) in [
         (Kind::Participation, (0, 0)),
-        (Kind::AtMostOne, (0, 0)),
+        (Kind::AtMostOne, (8, 0)),
         (Kind::ChainSuccession, (10, 2)),
         (Kind::AlternateSuccession, (7, 2)),
         (Kind::Succession, (4, 2)),
@@ -127,9 +159,18 @@ fn how_many_stand_below(rt: HostRuntime) {
         (Kind::AlternatePrecedence, (1, 1)),
         (Kind::Precedence, (0, 1)),
         (Kind::RespondedExistence, (0, 0)),
-        (Kind::NotCoExistence, (2, 2)),
-        (Kind::NotSuccession, (1, 0)),
-        (Kind::NotChainSuccession, (0, 0)),
+        (Kind::NotCoExistence, (7, 7)),
+        (Kind::NotSuccession, (5, 0)),
+        (Kind::NotChainSuccession, (2, 0)),
+        (Kind::Exactly { n: 1 }, (12, 0)),
+        (Kind::Exactly { n: 3 }, (11, 0)),
+        (Kind::AtLeast { n: 3 }, (3, 0)),
+        (Kind::AtMost { n: 3 }, (6, 0)),
+        (Kind::AtMost { n: 9 }, (0, 0)),
+        (Kind::NotRespondedExistence, (2, 2)),
+        (Kind::NotResponse, (1, 0)),
+        (Kind::NotPrecedence, (1, 0)),
+        (Kind::NotChainResponse, (0, 0)),
     ] {
         assert_eq!(rt; below(kind), counts, "{kind:?}");
     }
@@ -159,6 +200,21 @@ fn places_of_a_trace(rt: HostRuntime) {
             over(Kind::AtMostOne, 0, 0),
             [false, false, false, true],
             [true, true, true, false],
+        ),
+        (
+            over(Kind::Exactly { n: 2 }, 0, 0),
+            [false, false, false, true],
+            [true, true, true, true],
+        ),
+        (
+            over(Kind::NotChainResponse, 0, 1),
+            [true, false, true, false],
+            [false, true, true, true],
+        ),
+        (
+            over(Kind::NotPrecedence, 0, 1),
+            [false, true, false, false],
+            [true, false, true, true],
         ),
     ] {
         for place in 0..4 {

@@ -1,18 +1,16 @@
 -- The automaton of AtMostOne accepts the traces that keep it.
-use Rattle.std.proofs.Common.{◌≡◌, ◌↔◌, ℕ, suc, ◌+◌, ◌-◌, ◌&&◌, length, sum_by, count_by, min, sym, arith, nat_lt, List, [], ◌∷◌, ◌++◌, Bool, true, false, cond, eqb, IsTrue, nat_eq, refl, ap, ◌∙◌}
-use Rattle.template_core.proofs.Counters.{occurrences-snoc}
-use Rattle.template_core.proofs.Runs.{run_is}
-use Rattle.template_core.proofs.Wholes.{keeps_whole, whole_fulfilled}
+use Rattle.std.proofs.Common.{◌≡◌, ◌↔◌, ℕ, suc, ◌+◌, ◌-◌, ◌&&◌, length, sum_by, count_by, min, sym, arith, nat_lt, List, Bool, true, false, cond, eqb, IsTrue, nat_eq, ◌∙◌}
+use Rattle.template_core.proofs.Wholes.{whole_fulfilled}
 use Rattle.template_core.proofs.Traces.{count_by-not}
-use Rattle.template_core.proofs.Places.{count_events-nil}
 use Rattle.template_core.specs.Counters.{occurrences}
 use Rattle.std.proofs.lemmas.Bool.Decides.{nat_tests}
-use Rattle.template_core.specs.Automaton.{run, class_of}
+use Rattle.template_core.specs.Automaton.{run}
 use Rattle.template_core.specs.Events.{one_if, count_places}
 use Rattle.template_core.specs.Repertoire.{Keeps}
 use Rattle.template_core.specs.declared.class.Class.TheVariants.{First, Second, Other}
 use Rattle.template_core.specs.declared.kind.Kind.TheVariants.{AtMostOne}
 use Rattle.templates_unary.specs.AtMostOne.{next_after, accepts}
+use Rattle.templates_unary.specs.CountedLaw.{kept_by}
 
 step : (n : ℕ) (v w : Bool) → min (n + one_if v) 2 ≡ next_after (min n 2) (cond v First (cond w Second Other))
 step n true w = grind (arith, nat_tests)
@@ -23,18 +21,7 @@ accepts-says : (n : ℕ) → accepts (min n 2) ≡ nat_lt n 2
 accepts-says n = grind (arith, nat_tests)
 
 pub kept : (a b : ℕ) (trace : List ℕ) → a ≡ b → IsTrue (accepts (run next_after 0 a b trace)) ↔ Keeps nat_eq AtMostOne a b trace
-kept a b trace made =
-    keeps_whole trace (accepts (run next_after 0 a b trace)) (nat_lt (occurrences nat_eq a trace) 2)
-    (ap accepts (run_is next_after 0 a b says at_start each_event trace) ∙ accepts-says (occurrences nat_eq a trace))
-  where
-    says : List ℕ → ℕ
-    says t = min (occurrences nat_eq a t) 2
-
-    at_start : says [] ≡ 0
-    at_start = rw (count_events-nil {A = ℕ}) refl
-
-    each_event : (t : List ℕ) (x : ℕ) → says (t ++ x ∷ []) ≡ next_after (says t) (class_of a b x)
-    each_event t x = ap (λ n. min n 2) (occurrences-snoc nat_eq a t x) ∙ step (occurrences nat_eq a t) (eqb x a) (eqb x b)
+kept a b trace made = kept_by next_after 2 step accepts (λ k. nat_lt k 2) accepts-says a b trace
 
 -- the traces with less than two are all but those with more than one
 pub fulfilled_told : (a : ℕ) (log : List (List ℕ))

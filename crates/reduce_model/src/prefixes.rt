@@ -23,7 +23,7 @@ pub(crate) fn keep(
 ) -> Result<(), AllocError>
     ensures { OnOk result ((prefixes.new.items ≡ prefixes.old.items ++ prefix ∷ []) ⊎ (prefixes.new.items ≡ prefixes.old.items)) }
 {
-    let entries = (prefix.dfa.states() as u64).saturating_mul(prefix.dfa.symbols() as u64);
+    let entries = (prefix.dfa.states() as u64).saturating_mul(prefix.dfa.columns() as u64);
     if entries <= *spare {
         *spare -= entries;
         prefixes.push(prefix)?;

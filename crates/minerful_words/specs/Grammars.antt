@@ -5,6 +5,8 @@ use Rattle.std.specs.Str.{bytes_eq}
 use Rattle.decl_base.specs.Threshold.{is_digit, number_of_digits}
 use Rattle.log_columns.specs.declared.OrderAs.{OrderAs}
 use Rattle.log_columns.specs.declared.OrderAs.TheVariants as order
+use Rattle.template_core.specs.declared.repertoire.Repertoire.{Repertoire}
+use Rattle.template_core.specs.declared.repertoire.Repertoire.TheVariants as repertoire
 use Rattle.minerful_words.specs.declared.settings.Format.{Format}
 use Rattle.minerful_words.specs.declared.settings.Format.TheVariants as format
 use Rattle.minerful_words.specs.declared.settings.Stage.{Stage}
@@ -75,3 +77,8 @@ unfoldable pub out_of : List ℕ → Option Out
 out_of text =
     if bytes_eq text (codes "json") then Some out.Json
     else (if bytes_eq text (codes "table") then Some out.Table else None)
+
+unfoldable pub repertoire_of : List ℕ → Option Repertoire
+repertoire_of text =
+    if bytes_eq text (codes "1") then Some repertoire.First
+    else (if bytes_eq text (codes "2") then Some repertoire.Second else None)

@@ -32,7 +32,7 @@ use Rattle.minerful_core.proofs.Reports.{at_any, candidates_in_made, made_constr
 exact : (s : Settings) (log : List (List (List ℕ))) → All (λ c. c ≡ scored (by_ranks log) c.constraint) (candidates_in s log)
 exact s log k d inside =
     let c = slice_index_or (candidates_in s log) k d in
-    ((candidates_are (by_ranks log) (length (sorted_names log)) s.thresholds c).0 (k, inside, at_any (candidates_in s log) k d c inside)).scores
+    ((candidates_are (by_ranks log) (length (sorted_names log)) s.repertoire s.thresholds c).0 (k, inside, at_any (candidates_in s log) k d c inside)).scores
 
 -- the sentence holds of each reduction of the candidates
 headline : (s : Settings) (log : List (List (List ℕ))) (reduction : Reduction) → IsReduction (length (sorted_names log)) s.states (constraints_in (candidates_in s log)) reduction
@@ -62,11 +62,12 @@ module _ (text : List ℕ) (old new : SinkState) (held : new.held ≡ append_kno
   of_log : (s : Settings) (bytes : List ℕ) (log : List (List (List ℕ))) → MinesModel s → log_of s.format s.columns bytes ≡ Ok log → IsLogOutcome Mine s log (answers status.Done text) → PrintsModel s bytes old new
   of_log s bytes log mines read is =
       let list = candidates_in s log in
-      let staged = second (nat_lt standard.candidates (length list)) (answers status.Done text ≡ refuses (refusal.Candidates (length list))) (IsStageOutcome s.stage s.out s.states list log (answers status.Done text)) (λ e. cc) is in
-      let modelled : IsStageOutcome Model s.out s.states list log (answers status.Done text) = subst (λ stage. IsStageOutcome stage s.out s.states list log (answers status.Done text)) mines.stage staged in
-      let told : IsModelOutcome (model_text Json list) s.states list log (answers status.Done text) = subst (λ out. IsStageOutcome Model out s.states list log (answers status.Done text)) mines.out modelled in
-      let same : answers status.Done text ≡ answers status.Done (text_of_log (model_text Json list told.0) log) = told.2 in
-      let text_is : text ≡ text_of_log (model_text Json list told.0) log = cc in
+      let staged = second (nat_lt standard.candidates (length list)) (answers status.Done text ≡ refuses (refusal.Candidates (length list))) (IsStageOutcome s.stage s list log (answers status.Done text)) (λ e. cc) is in
+      let modelled : IsStageOutcome Model s list log (answers status.Done text) = subst (λ stage. IsStageOutcome stage s list log (answers status.Done text)) mines.stage staged in
+      let model = λ out. model_text out s.repertoire list in
+      let told : IsModelOutcome (model Json) s.states list log (answers status.Done text) = subst (λ out. IsModelOutcome (model out) s.states list log (answers status.Done text)) mines.out modelled in
+      let same : answers status.Done text ≡ answers status.Done (text_of_log (model Json told.0) log) = told.2 in
+      let text_is : text ≡ text_of_log (model Json told.0) log = cc in
       (log, list, told.0, read, held ∙ ap (append_known old.held) text_is, headline s log told.0 told.1)
 
   of_read : (s : Settings) (bytes : List ℕ) (read : Result (List (List (List ℕ))) Refusal) → MinesModel s → log_of s.format s.columns bytes ≡ read → IsOutcomeOf (IsLogOutcome Mine s) read (answers status.Done text) → PrintsModel s bytes old new

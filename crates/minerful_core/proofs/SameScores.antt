@@ -14,8 +14,9 @@ use Rattle.template_core.specs.declared.constraint.Constraint.{Constraint}
 use Rattle.template_core.specs.declared.group.Group.{Group}
 use Rattle.template_core.specs.declared.group.Group.TheVariants.{Existence, Relation, Mutual, Negative}
 use Rattle.template_core.specs.declared.kind.Kind.{Kind}
+use Rattle.template_core.specs.declared.repertoire.Repertoire.{Repertoire}
 use Rattle.template_set.specs.Numbers.{numbers_of}
-use Rattle.scoring.specs.Candidates.{candidates_of, constraints_over, reaches_all, reaching}
+use Rattle.scoring.specs.Candidates.{candidates_of, constraints_over, mined_kinds, reaches_all, reaching}
 use Rattle.scoring.specs.Priority.{in_order, priority_cmp}
 use Rattle.scoring.specs.Scores.{scored, scored_from}
 use Rattle.scoring.proofs.ByPair.{length-count}
@@ -62,10 +63,10 @@ module _ (xs ys : List (List ℕ)) (h : SumAlike xs ys) where
   unfolding scored
   same_scores c = ap₂ (scored_from c) (same_numbers c.kind c.first c.second) same_length
 
-  pub same_candidates : (n : ℕ) (thresholds : Thresholds) → candidates_of xs n thresholds ≡ candidates_of ys n thresholds
+  pub same_candidates : (n : ℕ) (repertoire : Repertoire) (thresholds : Thresholds) → candidates_of xs n repertoire thresholds ≡ candidates_of ys n repertoire thresholds
   unfolding candidates_of reaching
-  same_candidates n thresholds =
-      ap (λ list. in_order priority_cmp (filter (reaches_all thresholds) list)) (map-same (scored xs) (scored ys) same_scores (constraints_over n))
+  same_candidates n repertoire thresholds =
+      ap (λ list. in_order priority_cmp (filter (reaches_all thresholds) list)) (map-same (scored xs) (scored ys) same_scores (constraints_over (mined_kinds repertoire) n))
 
   -- ---- the counters
 

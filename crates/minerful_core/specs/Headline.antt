@@ -65,4 +65,4 @@ pub record IsHeadline (s : Settings) (log : List (List (List ℕ))) (list : List
 abbrev pub PrintsModel : Settings → List ℕ → SinkState → SinkState → Type 0
 PrintsModel s bytes old new =
     (log : List (List (List ℕ))) × (list : List Scored) × (reduction : Reduction) × (log_of s.format s.columns bytes ≡ Ok log)
-    × (new.held ≡ append_known old.held (text_of_log (model_text Json list reduction) log)) × IsHeadline s log list reduction
+    × (new.held ≡ append_known old.held (text_of_log (model_text Json s.repertoire list reduction) log)) × IsHeadline s log list reduction

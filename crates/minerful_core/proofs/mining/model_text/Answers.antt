@@ -18,7 +18,7 @@ pub returns-in_err-reduced-clause-refusal : goal.returns-in_err-reduced-clause-r
 returns-in_err-reduced-clause-refusal c =
     handed_on c.from_residual-in_err-reduced.result c.in_err-reduced.field-0.0 _ c.from_residual-in_err-reduced.ensures.1
     (λ ids is. refused_reduction c.args.names.now.names ids c.len.result c.args.list.now c.deref.result.now is.within.numbering c.len.ensures
-    (c.deref.ensures.value ∙ c.in_ok-constraints.ensures) (model_text c.args.settings.now.out c.args.list.now) c.args.settings.now.states _ c.in_err-reduced.ensures.err)
+    (c.deref.ensures.value ∙ c.in_ok-constraints.ensures) (model_text c.args.settings.now.out c.args.settings.now.repertoire c.args.list.now) c.args.settings.now.states _ c.in_err-reduced.ensures.err)
 
 pub write_model-requires-clause-made : goal.write_model-requires-clause-made
 write_model-requires-clause-made c =
@@ -50,7 +50,7 @@ returns-clause-text c =
     let names = c.args.names.now.names in
     let list = c.args.list.now in
     let states = c.args.settings.now.states in
-    let text_of = model_text c.args.settings.now.out list in
+    let text_of = model_text c.args.settings.now.out c.args.settings.now.repertoire list in
     IfOk-weaker c.write_model.result _ _
     (λ text h ids is. reported_is names ids c.len.result list c.deref.result.now is.within.numbering c.len.ensures (c.deref.ensures.value ∙ c.in_ok-constraints.ensures)
     (λ n l reduction. IsReduction n states l reduction) (λ reduction. text_of_log (text_of reduction) (named names ids)) c.in_ok-reduced.reduced text.items c.in_ok-reduced.ensures.ok

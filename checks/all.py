@@ -38,6 +38,7 @@ CHECKS = [
     Check(["faults.py"], "runs with an input or output that fails", PASSED_FAILED),
     Check(["allocations.py"], "runs with too little memory", PASSED_FAILED),
     Check(["fuzz.py"], "runs on random bytes and words", PASSED_FAILED),
+    Check(["expressions.py"], "words looked up in the templates' expressions", PASSED_FAILED),
     Check(["by_definition.py", "--no-limits"], "runs that are as defined", r"^(?P<passed>\d+) runs, no difference$"),
 ]
 

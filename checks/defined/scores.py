@@ -3,7 +3,7 @@
 import itertools
 from fractions import Fraction
 
-from defined.templates import EXISTENCE, ONE_ORDER, PRECEDENCES, RELATION, TEMPLATES, activated
+from defined.templates import BY_THE_SECOND, EXISTENCE, ONE_ORDER, RELATION, TEMPLATES, activated
 
 
 def traces_with(log, *activities):
@@ -16,7 +16,7 @@ def numbers_for_traces(constraint, log):
     if template in EXISTENCE:
         return len(log), traces_with(log, *activities)
     a, b = activities
-    if template in PRECEDENCES:
+    if template in BY_THE_SECOND:
         return traces_with(log, b), traces_with(log, a)
     if template in RELATION:
         return traces_with(log, a), traces_with(log, b)

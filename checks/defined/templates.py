@@ -1,26 +1,58 @@
-"""The repertoire: which places of a trace are activated, which are fulfilled, and which constraint is above which."""
+"""The repertoires: which places of a trace are activated, which are fulfilled, and which constraint is above which."""
 
-EXISTENCE = ["Init", "End", "Participation", "AtMostOne"]
+WHOLE_TRACE = ["Init", "End", "Participation", "AtMostOne"]
 MUTUAL = ["ChainSuccession", "AlternateSuccession", "Succession", "CoExistence"]
 RESPONSES = ["ChainResponse", "AlternateResponse", "Response"]
 PRECEDENCES = ["ChainPrecedence", "AlternatePrecedence", "Precedence"]
-RELATION = RESPONSES + PRECEDENCES + ["RespondedExistence"]
 NEGATIVE = ["NotCoExistence", "NotSuccession", "NotChainSuccession"]
 
 # In the order of their numbers, from 1.
-TEMPLATES = EXISTENCE + MUTUAL + RELATION + NEGATIVE
+TEMPLATES = WHOLE_TRACE + MUTUAL + RESPONSES + PRECEDENCES + ["RespondedExistence"] + NEGATIVE
+
+COUNTS = range(1, 10)
+COUNTED = (
+    [f"Exactly{count}" for count in COUNTS]
+    + [f"AtLeast{count}" for count in reversed(COUNTS)]
+    + [f"AtMost{count}" for count in COUNTS]
+)
+ONE_SIDED = ["NotRespondedExistence", "NotResponse", "NotPrecedence", "NotChainResponse", "NotChainPrecedence"]
+
+# Those of the first stand in it too, and keep their numbers.
+SECOND_REPERTOIRE = TEMPLATES + COUNTED + ONE_SIDED
+
+# Those of one activity.
+EXISTENCE = WHOLE_TRACE + COUNTED
+
+# Those that one of their two activities activates, and of these the ones that the second does.
+RELATION = RESPONSES + PRECEDENCES + ["RespondedExistence"] + ONE_SIDED
+BY_THE_SECOND = PRECEDENCES + ["NotPrecedence", "NotChainPrecedence"]
 
 # The same in both orders of their activities.
 ONE_ORDER = ["CoExistence", "NotCoExistence"]
 
 # What the place of the whole trace asks.
 
+
+def exactly(number):
+    return lambda trace, a: trace.count(a) == number
+
+
+def at_least(number):
+    return lambda trace, a: trace.count(a) >= number
+
+
+def at_most(number):
+    return lambda trace, a: trace.count(a) <= number
+
+
 WHOLE = {
     "Init": lambda trace, a: trace[:1] == (a,),
     "End": lambda trace, a: trace[-1:] == (a,),
-    "Participation": lambda trace, a: a in trace,
-    "AtMostOne": lambda trace, a: trace.count(a) <= 1,
+    "Participation": at_least(1),
+    "AtMostOne": at_most(1),
 }
+for count in COUNTS:
+    WHOLE |= {f"Exactly{count}": exactly(count), f"AtLeast{count}": at_least(count), f"AtMost{count}": at_most(count)}
 
 # What an event asks. It stands at place i, and `other` is the other activity of the constraint.
 
@@ -77,6 +109,11 @@ ASKS = {
     "NotCoExistence": (none(is_somewhere), none(is_somewhere)),
     "NotSuccession": (none(is_later), none(is_earlier)),
     "NotChainSuccession": (none(next_is), none(previous_is)),
+    "NotRespondedExistence": (none(is_somewhere), None),
+    "NotResponse": (none(is_later), None),
+    "NotPrecedence": (None, none(is_earlier)),
+    "NotChainResponse": (none(next_is), None),
+    "NotChainPrecedence": (None, none(previous_is)),
 }
 
 
@@ -114,9 +151,20 @@ BELOW = {
     "ChainPrecedence": ["AlternatePrecedence ab"],
     "AlternatePrecedence": ["Precedence ab"],
     "Precedence": ["RespondedExistence ba"],
-    "NotCoExistence": ["NotSuccession ab", "NotSuccession ba"],
-    "NotSuccession": ["NotChainSuccession ab"],
+    "AtMostOne": ["AtMost2 a"],
+    "NotCoExistence": ["NotSuccession ab", "NotSuccession ba", "NotRespondedExistence ab", "NotRespondedExistence ba"],
+    "NotSuccession": ["NotChainSuccession ab", "NotResponse ab", "NotPrecedence ab"],
+    "NotChainSuccession": ["NotChainResponse ab", "NotChainPrecedence ab"],
+    "NotRespondedExistence": ["NotResponse ab", "NotPrecedence ba"],
+    "NotResponse": ["NotChainResponse ab"],
+    "NotPrecedence": ["NotChainPrecedence ab"],
+    "AtLeast1": ["Participation a"],
+    "AtMost1": ["AtMostOne a"],
 }
+for count in COUNTS:
+    BELOW[f"Exactly{count}"] = [f"AtLeast{count} a", f"AtMost{count} a"]
+    BELOW.setdefault(f"AtLeast{count}", [f"AtLeast{count - 1} a"])
+    BELOW.setdefault(f"AtMost{count}", [f"AtMost{count + 1} a"] if count < COUNTS[-1] else [])
 
 
 def directly_below(constraint):

@@ -10,6 +10,7 @@ from fractions import Fraction
 from defined.automata import told_apart
 from defined.reduction import Searches, built_lists, reduced
 from defined.scores import candidates
+from defined.templates import SECOND_REPERTOIRE
 from defined.words import COMMANDS
 
 STAGES = ["scores", "consistent", "model"]
@@ -344,13 +345,14 @@ WORDS = {
     "traces": ["0", "1", "20", "0001048575", "1048576", "", "1e3", "٣"],
     "length": ["1", "16", "1000", "0", "1001", " 1"],
     "letters": ["1", "26", "0", "27", "a"],
+    "repertoire": ["1", "2", "0", "3", "01", ""],
     "nosuch": ["1"],
     "supports": ["1"],
     "suppor": ["1"],
     "log": ["log.txt"],
     "help": [""],
 }
-KNOWN = list(WORDS)[:15]
+KNOWN = list(WORDS)[:16]
 OTHERS = ["-", "--", "log.txt", "-x", "-5", "--=x", "---support", "mine", "kb", "", "-h", "--version", "--help", "-Vx"]
 OTHERS += ["model.json", "check"]
 
@@ -388,7 +390,7 @@ def words_by_hand():
             lists += [[*head, f"--{option}"], [*head, f"--{option}", "--", "x"], [*head, f"--{option}=1", f"--{option}=1"]]
     lists += [["mine", "--support", "x", "--format", "x"], ["mine", "--out=x", "--max-states=0", "--interest=2"]]
     lists += [["mine", "--", "--", "--"], ["mine", "--"], ["mine", "-", "-"], ["mine", "--support=1", "-", "--stage=scores"]]
-    lists += model_words() + generator_words()
+    lists += model_words() + generator_words() + expression_words()
     files = {"model.json": A_MODEL, "log.txt": b"ba\n", "-": b"x\n"}
     return [Case("words by hand", words, b"ab\nb\n", files) for words in lists]
 
@@ -414,6 +416,16 @@ def generator_words():
     for traces, length in [(1_048_575, 17), (16_778, 1000), (986_896, 17), (0, 1000)]:
         lists.append(["gen", f"--traces={traces}", f"--length={length}"])
     return lists
+
+
+def expression_words():
+    """Words of `regex`: each template, names of none, and words that match, don't match or aren't words."""
+    lists = [["regex", name] for name in [*SECOND_REPERTOIRE, "", "init", "Exactly0", "Exactly10", "AtMost", "Respond"]]
+    for name in ["Init", "Response", "AtMost2", "NotChainPrecedence"]:
+        lists += [["regex", name, word] for word in ["", "a", "b", "x", "ab", "ba", "aab", "axab", "y", "é", "A"]]
+        lists += [["regex", name, letter * size] for letter in "ax" for size in [64, 65]]
+    lists += [["regex", "Respond", "y"], ["regex", "Init", "--support=1"], ["regex", "Init", "a", "b"]]
+    return lists + [["regex", "--", "Init"], ["regex", "Init", "-"], ["regex", "Init", "é" * 65]]
 
 
 def words_that_are_no_text():

@@ -3,6 +3,7 @@
 from dataclasses import dataclass, field
 
 from defined import texts
+from defined.expressions import expression, matches
 from defined.generator import SAMPLE, generated
 from defined.logs import csv_log, string_log
 from defined.models import check, model_of
@@ -69,6 +70,10 @@ class Definitions:
                 return DONE, generated(*(given[name] for name in ["seed", "traces", "length", "letters"]))
             case "sample":
                 return DONE, self.sampled(given)
+            case "regex" if given["word"] is None:
+                return DONE, expression(given["model"])
+            case "regex":
+                return (DONE, b"yes\n") if matches(given["model"], given["word"]) else (DIFFERS, b"no\n")
 
     # Inputs.
 

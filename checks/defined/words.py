@@ -5,23 +5,30 @@ from fractions import Fraction
 
 from defined.logs import EVENTS, TRACES
 from defined.refusals import Refused
+from defined.templates import EXISTENCE, SECOND_REPERTOIRE
 
 LOG_OPTIONS = ["format", "case-column", "activity-column", "order-column", "order-as"]
 MINE_OPTIONS = LOG_OPTIONS + ["support", "confidence", "interest", "max-states", "stage", "out"]
 GEN_OPTIONS = ["seed", "traces", "length", "letters"]
+LATER_OPTIONS = ["repertoire"]
 
 # Of each command its options, and what it takes by its place.
 COMMANDS = {
-    "mine": (MINE_OPTIONS, ["log"]),
+    "mine": (MINE_OPTIONS + LATER_OPTIONS, ["log"]),
     "kb": (LOG_OPTIONS, ["log"]),
     "check": (LOG_OPTIONS, ["model", "log"]),
     "gen": (GEN_OPTIONS, []),
     "sample": (["seed"], []),
+    "regex": ([], ["model", "word"]),
 }
 
 # The number that a usage line names.
 PLACES = {name: place for place, name in enumerate(MINE_OPTIONS + GEN_OPTIONS, 2)}
 TWICE_STANDARD_INPUT, TOO_MANY_EVENTS = 17, 18
+PLACES |= {name: place for place, name in enumerate(LATER_OPTIONS, 19)}
+NO_TEMPLATE, NO_WORD = 22, 23
+
+LONGEST_WORD = 64
 
 
 def one_of(*texts):
@@ -64,6 +71,7 @@ MEANINGS = {
     "traces": whole(0, TRACES),
     "length": whole(1, 1_000),
     "letters": whole(1, 26),
+    "repertoire": one_of("1", "2"),
 }
 
 # What is taken where it isn't given.
@@ -83,6 +91,8 @@ DEFAULTS = {
     "traces": 100,
     "length": 10,
     "letters": 4,
+    "repertoire": "1",
+    "word": None,
     "model": "",
     "log": "-",
 }
@@ -140,8 +150,13 @@ class Taken:
         return self.texts
 
 
+def is_word(template, text):
+    letters = "ax" if template in EXISTENCE else "abx"
+    return len(text) <= LONGEST_WORD and all(letter in letters for letter in text)
+
+
 def settings(words):
-    """The command, and the value of each option, of the model and of the log."""
+    """The command, and the value of each option, of the model, of the log and of the word."""
     if not words or words[0] not in COMMANDS:
         raise Refused("Usage", 0)
     command, *rest = words
@@ -155,4 +170,9 @@ def settings(words):
         raise Refused("Usage", TWICE_STANDARD_INPUT)
     if found["traces"] * found["length"] > EVENTS:
         raise Refused("Usage", TOO_MANY_EVENTS)
+    if command == "regex":
+        if found["model"] not in SECOND_REPERTOIRE:
+            raise Refused("Usage", NO_TEMPLATE)
+        if found["word"] is not None and not is_word(found["model"], found["word"]):
+            raise Refused("Usage", NO_WORD)
     return found

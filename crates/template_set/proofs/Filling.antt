@@ -95,11 +95,13 @@ module _ (states start : ℕ) (next_state : ℕ → Class → ℕ) (is_accepting
       let rest = by-run c trace (step table state (class c event)) lt in
       (rest.0 ∙ ap (λ n. run next_state n c.first c.second trace) e, rest.1)
 
-  pub by-Accepts : (kind : Kind)
-      → ((a b : ℕ) (trace : List ℕ) → IsWellMade kind a b → IsTrue (is_accepting (run next_state start a b trace)) ↔ Keeps nat_eq kind a b trace)
+  pub by-Accepts : (kind other : Kind) → kind ≡ other
+      → ((a b : ℕ) (trace : List ℕ) → IsWellMade other a b → IsTrue (is_accepting (run next_state start a b trace)) ↔ Keeps nat_eq other a b trace)
       → Accepts kind table
-  by-Accepts kind law c trace made =
+  by-Accepts kind other is law c trace made =
       let begins = by-run c trace table.start (subst (λ n. n < states) (sym by.start_is) by.start_below) in
       let same : keeps_by table c trace ≡ is_accepting (run next_state start c.first c.second trace)
       = by.accepting_is (table_run table c table.start trace) begins.1 ∙ ap is_accepting (begins.0 ∙ ap (λ n. run next_state n c.first c.second trace) by.start_is) in
-      subst (λ v. IsTrue v ↔ Keeps nat_eq kind c.first c.second trace) (sym same) (law c.first c.second trace made)
+      subst (λ k. IsTrue (keeps_by table c trace) ↔ Keeps nat_eq k c.first c.second trace) (sym is)
+      (subst (λ v. IsTrue v ↔ Keeps nat_eq other c.first c.second trace) (sym same)
+      (law c.first c.second trace (subst (λ k. IsWellMade k c.first c.second) is made)))

@@ -1,17 +1,17 @@
 -- The rows of the hierarchy's list, and what holds of each row holds of the closure.
-use denote.Enum.Bare.{sameb, same_true, true_same}
-use Rattle.std.proofs.Common.{◌≡◌, ◌≢◌, ◌↔◌, ◌⊎◌, ℕ, zero, suc, ◌+◌, ◌<◌, ◌≤◌, ◌-◌, List, [], ◌∷◌, nat_eq, Bool, true, ◌&&◌, eqb, slice_index_or, rules, Option, Some, None, filter_map, ◌∙◌, length, refl, sym, ap, subst, arith, inl, inr, ⊎_elim}
-use Rattle.std.proofs.lemmas.Bool.{and_parts, and_from, eqb-true, eq-eqb}
-use Rattle.std.proofs.lemmas.Option.{slice_get_within}
+use Rattle.std.proofs.Common.{◌≡◌, ◌≢◌, ◌↔◌, ◌⊎◌, ℕ, zero, suc, ◌+◌, ◌<◌, ◌≤◌, ◌-◌, List, [], ◌∷◌, nat_eq, Bool, true, false, ◌&&◌, ◌==◌, not, if◌then◌else◌, nat_le, nat_lt, eqb, slice_index_or, rules, Option, Some, None, filter_map, ◌∙◌, length, refl, sym, ap, subst, arith, inl, inr, ⊎_elim}
+use Rattle.std.proofs.lemmas.Bool.{and_parts, and_from, eqb-true, eq-eqb, ltb-true}
+use Rattle.std.proofs.lemmas.Bool.Decides.{nat_tests}
 use Rattle.std.specs.List.{AllByRecursion, Contains}
-use Rattle.template_core.proofs.ByPlaces.{activated-iff, fulfilled-iff}
+use Rattle.template_core.proofs.Gains.{occurs-count}
+use Rattle.template_core.proofs.KeptByPlaces.{KeptByPlaces, to_places, from_places}
 use Rattle.template_core.specs.Constraints.{IsWellMade}
-use Rattle.template_core.specs.Places.{EventIs, PreviousIs, AlternatesLater, AlternatesEarlier, AtEach, ActivatedAt, FulfilledAt}
+use Rattle.template_core.specs.Counters.{occurrences}
+use Rattle.template_core.specs.Places.{EventIs, PreviousIs, LaterIs, EarlierIs, AlternatesLater, AlternatesEarlier, AtEach}
 use Rattle.template_core.specs.Repertoire.{Keeps}
 use Rattle.template_core.specs.declared.constraint.Constraint.{Constraint}
 use Rattle.template_core.specs.declared.kind.Kind.{Kind}
-use Rattle.template_core.specs.declared.kind.Kind.TheVariants.{Init, End, Participation, AtMostOne, ChainSuccession, AlternateSuccession, Succession, CoExistence, ChainResponse, AlternateResponse, Response, ChainPrecedence, AlternatePrecedence, Precedence, RespondedExistence, NotCoExistence, NotSuccession, NotChainSuccession}
-use Rattle.template_core.specs.contracts.kind.Kind.{the_type}
+use Rattle.template_core.specs.declared.kind.Kind.TheVariants.{Init, End, Participation, AtMostOne, ChainSuccession, AlternateSuccession, Succession, CoExistence, ChainResponse, AlternateResponse, Response, ChainPrecedence, AlternatePrecedence, Precedence, RespondedExistence, NotCoExistence, NotSuccession, NotChainSuccession, Exactly, AtLeast, AtMost, NotRespondedExistence, NotResponse, NotPrecedence, NotChainResponse, NotChainPrecedence}
 use Rattle.template_set.specs.Hierarchy.{of, listed_below, IsListed, IsOver, IsStronger, directly, through}
 
 -- what holds of each element of a list
@@ -20,12 +20,27 @@ each_of_list P [] all x (k, within, is) = absurd (omega (arith, within))
 each_of_list P (y ∷ xs) all x (zero, within, is) = subst P is all.0
 each_of_list P (y ∷ xs) all x (suc k, within, is) = each_of_list P xs all.1 x (k, omega (arith, within), is)
 
--- how many steps lead down from a template, at most
+-- a row of a counted template, by its number
+by_test : (P : List Constraint → Type 0) (xs ys : List Constraint) (test : Bool) → (test ≡ true → P xs) → P ys → P (if test then xs else ys)
+by_test P xs ys true f q = f refl
+by_test P xs ys false f q = q
+
+below_least : (P : Constraint → Type 0) (n a b : ℕ) → (n ≡ 1 → P (of Participation a b)) → (1 < n → P (of (AtLeast (n - 1)) a b)) → AllByRecursion P (listed_below (AtLeast n) a b)
+below_least P n a b one more =
+    by_test (AllByRecursion P) _ _ (n == 1) (λ e. (one (eqb-true n 1 e), tt))
+    (by_test (AllByRecursion P) _ _ (nat_lt 1 n) (λ e. (more (ltb-true 1 n e), tt)) tt)
+
+below_most : (P : Constraint → Type 0) (n a b : ℕ) → (n ≡ 1 → P (of AtMostOne a b)) → (1 < n → n < 9 → P (of (AtMost (n + 1)) a b)) → AllByRecursion P (listed_below (AtMost n) a b)
+below_most P n a b one more =
+    by_test (AllByRecursion P) _ _ (n == 1) (λ e. (one (eqb-true n 1 e), tt))
+    (by_test (AllByRecursion P) _ _ (nat_lt 1 n && nat_lt n 9) (λ e. let both = and_parts (nat_lt 1 n) (nat_lt n 9) e in (more (ltb-true 1 n both.0) (ltb-true n 9 both.1), tt)) tt)
+
+-- a number that falls at each step down from a template
 abbrev pub height : Kind → ℕ
 height Init = 1
 height End = 1
 height Participation = 0
-height AtMostOne = 0
+height AtMostOne = 17
 height ChainSuccession = 5
 height AlternateSuccession = 4
 height Succession = 3
@@ -37,15 +52,23 @@ height ChainPrecedence = 3
 height AlternatePrecedence = 2
 height Precedence = 1
 height RespondedExistence = 0
-height NotCoExistence = 2
-height NotSuccession = 1
-height NotChainSuccession = 0
+height NotCoExistence = 3
+height NotSuccession = 2
+height NotChainSuccession = 1
+height (Exactly n) = 21 + n
+height (AtLeast n) = n
+height (AtMost n) = 20 - (n + n)
+height NotRespondedExistence = 2
+height NotResponse = 1
+height NotPrecedence = 1
+height NotChainResponse = 0
+height NotChainPrecedence = 0
 
 lower_rows : (kind : Kind) (a b : ℕ) → AllByRecursion (λ d. height d.kind < height kind) (listed_below kind a b)
 lower_rows Init a b = (omega arith, tt)
 lower_rows End a b = (omega arith, tt)
 lower_rows Participation a b = tt
-lower_rows AtMostOne a b = tt
+lower_rows AtMostOne a b = (omega arith, tt)
 lower_rows ChainSuccession a b = (omega arith, (omega arith, (omega arith, tt)))
 lower_rows AlternateSuccession a b = (omega arith, (omega arith, (omega arith, tt)))
 lower_rows Succession a b = (omega arith, (omega arith, (omega arith, (omega arith, tt))))
@@ -57,9 +80,17 @@ lower_rows ChainPrecedence a b = (omega arith, tt)
 lower_rows AlternatePrecedence a b = (omega arith, tt)
 lower_rows Precedence a b = (omega arith, tt)
 lower_rows RespondedExistence a b = tt
-lower_rows NotCoExistence a b = (omega arith, (omega arith, tt))
-lower_rows NotSuccession a b = (omega arith, tt)
-lower_rows NotChainSuccession a b = tt
+lower_rows NotCoExistence a b = (omega arith, (omega arith, (omega arith, (omega arith, tt))))
+lower_rows NotSuccession a b = (omega arith, (omega arith, (omega arith, tt)))
+lower_rows NotChainSuccession a b = (omega arith, (omega arith, tt))
+lower_rows (Exactly n) a b = (omega arith, (omega arith, tt))
+lower_rows (AtLeast n) a b = below_least (λ d. height d.kind < n) n a b (λ one. omega (arith, one)) (λ more. omega (arith, more))
+lower_rows (AtMost n) a b = below_most (λ d. height d.kind < height (AtMost n)) n a b (λ one. omega (arith, one)) (λ more few. omega (arith, more, few))
+lower_rows NotRespondedExistence a b = (omega arith, (omega arith, tt))
+lower_rows NotResponse a b = (omega arith, tt)
+lower_rows NotPrecedence a b = (omega arith, tt)
+lower_rows NotChainResponse a b = tt
+lower_rows NotChainPrecedence a b = tt
 
 pub lower_listed : (c d : Constraint) → IsListed c d → height d.kind < height c.kind
 lower_listed c d h = each_of_list (λ d. height d.kind < height c.kind) (listed_below c.kind c.first c.second) (lower_rows c.kind c.first c.second) d h
@@ -75,7 +106,7 @@ over_rows : (kind : Kind) (a b : ℕ) → AllByRecursion (IsOver a b) (listed_be
 over_rows Init a b = (inl (refl, refl), tt)
 over_rows End a b = (inl (refl, refl), tt)
 over_rows Participation a b = tt
-over_rows AtMostOne a b = tt
+over_rows AtMostOne a b = (inl (refl, refl), tt)
 over_rows ChainSuccession a b = (inl (refl, refl), (inl (refl, refl), (inl (refl, refl), tt)))
 over_rows AlternateSuccession a b = (inl (refl, refl), (inl (refl, refl), (inl (refl, refl), tt)))
 over_rows Succession a b = (inl (refl, refl), (inr (refl, refl), (inl (refl, refl), (inl (refl, refl), tt))))
@@ -87,9 +118,17 @@ over_rows ChainPrecedence a b = (inl (refl, refl), tt)
 over_rows AlternatePrecedence a b = (inl (refl, refl), tt)
 over_rows Precedence a b = (inr (refl, refl), tt)
 over_rows RespondedExistence a b = tt
-over_rows NotCoExistence a b = (inl (refl, refl), (inr (refl, refl), tt))
-over_rows NotSuccession a b = (inl (refl, refl), tt)
-over_rows NotChainSuccession a b = tt
+over_rows NotCoExistence a b = (inl (refl, refl), (inr (refl, refl), (inl (refl, refl), (inr (refl, refl), tt))))
+over_rows NotSuccession a b = (inl (refl, refl), (inl (refl, refl), (inl (refl, refl), tt)))
+over_rows NotChainSuccession a b = (inl (refl, refl), (inl (refl, refl), tt))
+over_rows (Exactly n) a b = (inl (refl, refl), (inl (refl, refl), tt))
+over_rows (AtLeast n) a b = below_least (IsOver a b) n a b (λ one. inl (refl, refl)) (λ more. inl (refl, refl))
+over_rows (AtMost n) a b = below_most (IsOver a b) n a b (λ one. inl (refl, refl)) (λ more few. inl (refl, refl))
+over_rows NotRespondedExistence a b = (inl (refl, refl), (inr (refl, refl), tt))
+over_rows NotResponse a b = (inl (refl, refl), tt)
+over_rows NotPrecedence a b = (inl (refl, refl), tt)
+over_rows NotChainResponse a b = tt
+over_rows NotChainPrecedence a b = tt
 
 pub over : (c d : Constraint) → IsStronger c d → IsOver c.first c.second d
 over c d (directly h) = each_of_list (IsOver c.first c.second) (listed_below c.kind c.first c.second) (over_rows c.kind c.first c.second) d h
@@ -147,45 +186,47 @@ none_leads c d xs k are le none h =
     let p = place xs r.0 (subst (λ list. Contains list r.0) (sym are) r.1) in
     none p.0 r.0 (omega (arith, p.1)) p.2 r.2
 
--- the test of two constraints
-pub same_is : (c d : Constraint) (r : Bool) → r ≡ (sameb the_type c.kind d.kind && (eqb c.first d.first && eqb c.second d.second)) → r ≡ true ↔ (c ≡ d)
-same_is c d r is = (λ e. equal (sym is ∙ e), λ same. is ∙ subst (λ d. (sameb the_type c.kind d.kind && (eqb c.first d.first && eqb c.second d.second)) ≡ true) same itself)
-  where
-    equal : (sameb the_type c.kind d.kind && (eqb c.first d.first && eqb c.second d.second)) ≡ true → c ≡ d
-    equal e =
-        let both = and_parts (sameb the_type c.kind d.kind) (eqb c.first d.first && eqb c.second d.second) e in
-        let two = and_parts (eqb c.first d.first) (eqb c.second d.second) both.1 in
-        let kinds : c.kind ≡ d.kind = same_true the_type (search rules) _ _ both.0 in
-        let firsts : c.first ≡ d.first = eqb-true _ _ two.0 in
-        let seconds : c.second ≡ d.second = eqb-true _ _ two.1 in
-        let parts : of c.kind c.first c.second ≡ of d.kind d.first d.second = rw (kinds, firsts, seconds) refl in
-        parts
-
-    itself : (sameb the_type c.kind c.kind && (eqb c.first c.first && eqb c.second c.second)) ≡ true
-    itself =
-        and_from (sameb the_type c.kind c.kind) (eqb c.first c.first && eqb c.second c.second) (true_same the_type c.kind c.kind refl)
-        (and_from (eqb c.first c.first) (eqb c.second c.second) (eq-eqb c.first c.first refl) (eq-eqb c.second c.second refl))
-
--- where a trace keeps a constraint, in words of places
-abbrev Kept : Kind → ℕ → ℕ → List ℕ → Type 0
-Kept kind a b trace = (i : ℕ) → i ≤ length trace → ActivatedAt kind a b trace i → FulfilledAt kind a b trace i
-
-to_places : (kind : Kind) (a b : ℕ) → IsWellMade kind a b → (trace : List ℕ) → Keeps nat_eq kind a b trace → Kept kind a b trace
-to_places kind a b made trace keeps i le active = (fulfilled-iff kind a b trace i made active).0 (keeps i le ((activated-iff kind a b trace i).1 active))
-
-from_places : (kind : Kind) (a b : ℕ) → IsWellMade kind a b → (trace : List ℕ) → Kept kind a b trace → Keeps nat_eq kind a b trace
-from_places kind a b made trace kept i le active =
-    let at = (activated-iff kind a b trace i).0 active in
-    (fulfilled-iff kind a b trace i made at).1 (kept i le at)
-
 -- a constraint is well made where the one above it is, and a trace that keeps that one keeps it
 record Follows (kind : Kind) (a b : ℕ) (d : Constraint) : Type 0 where
   made : IsWellMade kind a b → IsWellMade d.kind d.first d.second
-  kept : (trace : List ℕ) → Kept kind a b trace → Kept d.kind d.first d.second trace
+  kept : IsWellMade kind a b → (trace : List ℕ) → Keeps nat_eq kind a b trace → Keeps nat_eq d.kind d.first d.second trace
 
--- events stand before the end
-within : (a : ℕ) (trace : List ℕ) (i : ℕ) → EventIs a trace i → i ≤ length trace
-within a trace i is = omega (arith, slice_get_within trace i a is)
+by_places : (kind : Kind) (a b : ℕ) (d : Constraint) → (IsWellMade kind a b → IsWellMade d.kind d.first d.second)
+    → ((trace : List ℕ) → KeptByPlaces kind a b trace → KeptByPlaces d.kind d.first d.second trace) → Follows kind a b d
+by_places kind a b d below kept = record {
+  made = below;
+  kept = λ made trace keeps. from_places d.kind d.first d.second (below made) trace (kept trace (to_places kind a b made trace keeps));
+}
+
+-- tests of the number k of a's of a trace
+exactly_least : (n k : ℕ) → (k == n) ≡ true → nat_le n k ≡ true
+exactly_least n k h = grind (arith, nat_tests)
+
+exactly_most : (n k : ℕ) → (k == n) ≡ true → nat_le k n ≡ true
+exactly_most n k h = grind (arith, nat_tests)
+
+least_one : (n k : ℕ) (occurs : Bool) → n ≡ 1 → eqb k 0 ≡ not occurs → nat_le n k ≡ true → occurs ≡ true
+least_one n k true one is h = refl
+least_one n k false one is h = grind (arith, nat_tests)
+
+least_less : (n k : ℕ) → nat_le n k ≡ true → nat_le (n - 1) k ≡ true
+least_less n k h = grind (arith, nat_tests)
+
+most_one : (n k : ℕ) → n ≡ 1 → nat_le k n ≡ true → nat_lt k 2 ≡ true
+most_one n k one h = grind (arith, nat_tests)
+
+most_two : (k : ℕ) → nat_lt k 2 ≡ true → nat_le k 2 ≡ true
+most_two k h = grind (arith, nat_tests)
+
+most_more : (n k : ℕ) → nat_le k n ≡ true → nat_le k (n + 1) ≡ true
+most_more n k h = grind (arith, nat_tests)
+
+-- what stands nowhere behind, or before, doesn't stand next to it
+not_next : (b : ℕ) (trace : List ℕ) (i : ℕ) → ¬ LaterIs b trace i → ¬ EventIs b trace (i + 1)
+not_next b trace i none is = none (i + 1, omega arith, is)
+
+not_previous : (a : ℕ) (trace : List ℕ) (i : ℕ) → ¬ EarlierIs a trace i → ¬ PreviousIs a trace i
+not_previous a trace i none r = none (i - 1, omega (arith, r.0), r.1)
 
 next_alternates : (a b : ℕ) (trace : List ℕ) (i : ℕ) → EventIs b trace (i + 1) → AlternatesLater a b trace i
 next_alternates a b trace i is = (i + 1, omega arith, is, λ k low high at. absurd (omega (arith, low, high)))
@@ -208,66 +249,93 @@ back : {a b : ℕ} → a ≢ b → b ≢ a
 back differ e = differ (sym e)
 
 follows_rows : (kind : Kind) (a b : ℕ) → AllByRecursion (Follows kind a b) (listed_below kind a b)
-follows_rows Init a b = (record { made = λ m. m; kept = λ trace h i le at. (0, (h i le at).1) }, tt)
-follows_rows End a b = (record { made = λ m. m; kept = λ trace h i le at. (length trace - 1, (h i le at).1) }, tt)
+follows_rows Init a b = (by_places _ _ _ _ (λ m. m) (λ trace h i le at. (0, (h i le at).1)), tt)
+follows_rows End a b = (by_places _ _ _ _ (λ m. m) (λ trace h i le at. (length trace - 1, (h i le at).1)), tt)
 follows_rows Participation a b = tt
-follows_rows AtMostOne a b = tt
+follows_rows AtMostOne a b = (record { made = λ m. (m, (omega arith, omega arith)); kept = λ made trace keeps i le at. most_two (occurrences nat_eq a trace) (keeps i le at) }, tt)
 follows_rows ChainSuccession a b = (
-  record { made = λ m. m; kept = λ trace h. both a b trace _ _ _ _ (next_alternates a b trace) (previous_alternates a b trace) h },
+  by_places _ _ _ _ (λ m. m) (λ trace h. both a b trace _ _ _ _ (next_alternates a b trace) (previous_alternates a b trace) h),
   (
-    record { made = λ m. m; kept = λ trace h i le at. (h i le (inl at)).0 at },
-    (record { made = λ m. m; kept = λ trace h i le at. (h i le (inr at)).1 at }, tt),
+    by_places _ _ _ _ (λ m. m) (λ trace h i le at. (h i le (inl at)).0 at),
+    (by_places _ _ _ _ (λ m. m) (λ trace h i le at. (h i le (inr at)).1 at), tt),
   ),
 )
 follows_rows AlternateSuccession a b = (
-  record { made = λ m. m; kept = λ trace h. both a b trace _ _ _ _ (λ i r. (r.0, r.1, r.2)) (λ i r. (r.0, r.1, r.2)) h },
+  by_places _ _ _ _ (λ m. m) (λ trace h. both a b trace _ _ _ _ (λ i r. (r.0, r.1, r.2)) (λ i r. (r.0, r.1, r.2)) h),
   (
-    record { made = λ m. m; kept = λ trace h i le at. (h i le (inl at)).0 at },
-    (record { made = λ m. m; kept = λ trace h i le at. (h i le (inr at)).1 at }, tt),
+    by_places _ _ _ _ (λ m. m) (λ trace h i le at. (h i le (inl at)).0 at),
+    (by_places _ _ _ _ (λ m. m) (λ trace h i le at. (h i le (inr at)).1 at), tt),
   ),
 )
 follows_rows Succession a b = (
-  record { made = λ m. m; kept = λ trace h. both a b trace _ _ _ _ (λ i r. (r.0, r.2)) (λ i r. (r.0, r.2)) h },
+  by_places _ _ _ _ (λ m. m) (λ trace h. both a b trace _ _ _ _ (λ i r. (r.0, r.2)) (λ i r. (r.0, r.2)) h),
   (
-    record { made = back; kept = λ trace h. swapped a b trace _ _ _ _ (λ i r. (r.0, r.2)) (λ i r. (r.0, r.2)) h },
+    by_places _ _ _ _ back (λ trace h. swapped a b trace _ _ _ _ (λ i r. (r.0, r.2)) (λ i r. (r.0, r.2)) h),
     (
-      record { made = λ m. m; kept = λ trace h i le at. (h i le (inl at)).0 at },
-      (record { made = λ m. m; kept = λ trace h i le at. (h i le (inr at)).1 at }, tt),
+      by_places _ _ _ _ (λ m. m) (λ trace h i le at. (h i le (inl at)).0 at),
+      (by_places _ _ _ _ (λ m. m) (λ trace h i le at. (h i le (inr at)).1 at), tt),
     ),
   ),
 )
 follows_rows CoExistence a b = (
-  record { made = λ m. m; kept = λ trace h i le at. (h i le (inl at)).0 at },
-  (record { made = back; kept = λ trace h i le at. (h i le (inr at)).1 at }, tt),
+  by_places _ _ _ _ (λ m. m) (λ trace h i le at. (h i le (inl at)).0 at),
+  (by_places _ _ _ _ back (λ trace h i le at. (h i le (inr at)).1 at), tt),
 )
-follows_rows ChainResponse a b = (record { made = λ m. m; kept = λ trace h i le at. next_alternates a b trace i (h i le at) }, tt)
-follows_rows AlternateResponse a b = (record { made = λ m. m; kept = λ trace h i le at. let r = h i le at in (r.0, r.1, r.2) }, tt)
-follows_rows Response a b = (record { made = λ m. m; kept = λ trace h i le at. let r = h i le at in (r.0, r.2) }, tt)
-follows_rows ChainPrecedence a b = (record { made = λ m. m; kept = λ trace h i le at. previous_alternates a b trace i (h i le at) }, tt)
-follows_rows AlternatePrecedence a b = (record { made = λ m. m; kept = λ trace h i le at. let r = h i le at in (r.0, r.1, r.2) }, tt)
-follows_rows Precedence a b = (record { made = back; kept = λ trace h i le at. let r = h i le at in (r.0, r.2) }, tt)
+follows_rows ChainResponse a b = (by_places _ _ _ _ (λ m. m) (λ trace h i le at. next_alternates a b trace i (h i le at)), tt)
+follows_rows AlternateResponse a b = (by_places _ _ _ _ (λ m. m) (λ trace h i le at. let r = h i le at in (r.0, r.1, r.2)), tt)
+follows_rows Response a b = (by_places _ _ _ _ (λ m. m) (λ trace h i le at. let r = h i le at in (r.0, r.2)), tt)
+follows_rows ChainPrecedence a b = (by_places _ _ _ _ (λ m. m) (λ trace h i le at. previous_alternates a b trace i (h i le at)), tt)
+follows_rows AlternatePrecedence a b = (by_places _ _ _ _ (λ m. m) (λ trace h i le at. let r = h i le at in (r.0, r.1, r.2)), tt)
+follows_rows Precedence a b = (by_places _ _ _ _ back (λ trace h i le at. let r = h i le at in (r.0, r.2)), tt)
 follows_rows RespondedExistence a b = tt
 follows_rows NotCoExistence a b = (
-  record { made = λ m. m; kept = λ trace h. both a b trace _ _ _ _ (λ i no r. no (r.0, r.2)) (λ i no r. no (r.0, r.2)) h },
-  (record { made = back; kept = λ trace h. swapped a b trace _ _ _ _ (λ i no r. no (r.0, r.2)) (λ i no r. no (r.0, r.2)) h }, tt),
+  by_places _ _ _ _ (λ m. m) (λ trace h. both a b trace _ _ _ _ (λ i no r. no (r.0, r.2)) (λ i no r. no (r.0, r.2)) h),
+  (
+    by_places _ _ _ _ back (λ trace h. swapped a b trace _ _ _ _ (λ i no r. no (r.0, r.2)) (λ i no r. no (r.0, r.2)) h),
+    (
+      by_places _ _ _ _ (λ m. m) (λ trace h i le at. (h i le (inl at)).0 at),
+      (by_places _ _ _ _ back (λ trace h i le at. (h i le (inr at)).1 at), tt),
+    ),
+  ),
 )
 follows_rows NotSuccession a b = (
-  record {
-    made = λ m. m;
-    kept = λ trace h. both a b trace _ _ _ _ (λ i no is. no (i + 1, omega arith, is)) (λ i no r. no (i - 1, omega (arith, r.0), r.1)) h;
-  },
-  tt,
+  by_places _ _ _ _ (λ m. m) (λ trace h. both a b trace _ _ _ _ (not_next b trace) (not_previous a trace) h),
+  (
+    by_places _ _ _ _ (λ m. m) (λ trace h i le at. (h i le (inl at)).0 at),
+    (by_places _ _ _ _ (λ m. m) (λ trace h i le at. (h i le (inr at)).1 at), tt),
+  ),
 )
-follows_rows NotChainSuccession a b = tt
+follows_rows NotChainSuccession a b = (
+  by_places _ _ _ _ (λ m. m) (λ trace h i le at. (h i le (inl at)).0 at),
+  (by_places _ _ _ _ (λ m. m) (λ trace h i le at. (h i le (inr at)).1 at), tt),
+)
+follows_rows (Exactly n) a b = (
+  record { made = λ m. m; kept = λ made trace keeps i le at. exactly_least n (occurrences nat_eq a trace) (keeps i le at) },
+  (record { made = λ m. m; kept = λ made trace keeps i le at. exactly_most n (occurrences nat_eq a trace) (keeps i le at) }, tt),
+)
+follows_rows (AtLeast n) a b =
+    below_least (Follows (AtLeast n) a b) n a b
+    (λ one. record { made = λ m. m.0; kept = λ made trace keeps i le at. least_one n (occurrences nat_eq a trace) _ one (occurs-count nat_eq a trace) (keeps i le at) })
+    (λ more. record { made = λ m. (m.0, (omega (arith, more), omega (arith, m.1.1))); kept = λ made trace keeps i le at. least_less n (occurrences nat_eq a trace) (keeps i le at) })
+follows_rows (AtMost n) a b =
+    below_most (Follows (AtMost n) a b) n a b
+    (λ one. record { made = λ m. m.0; kept = λ made trace keeps i le at. most_one n (occurrences nat_eq a trace) one (keeps i le at) })
+    (λ more few. record { made = λ m. (m.0, (omega arith, omega (arith, few))); kept = λ made trace keeps i le at. most_more n (occurrences nat_eq a trace) (keeps i le at) })
+follows_rows NotRespondedExistence a b = (
+  by_places _ _ _ _ (λ m. m) (λ trace h i le at r. h i le at (r.0, r.2)),
+  (by_places _ _ _ _ back (λ trace h i le at r. h i le at (r.0, r.2)), tt),
+)
+follows_rows NotResponse a b = (by_places _ _ _ _ (λ m. m) (λ trace h i le at. not_next b trace i (h i le at)), tt)
+follows_rows NotPrecedence a b = (by_places _ _ _ _ (λ m. m) (λ trace h i le at. not_previous a trace i (h i le at)), tt)
+follows_rows NotChainResponse a b = tt
+follows_rows NotChainPrecedence a b = tt
 
 follows : (c d : Constraint) → IsListed c d → Follows c.kind c.first c.second d
 follows c d h = each_of_list (Follows c.kind c.first c.second) (listed_below c.kind c.first c.second) (follows_rows c.kind c.first c.second) d h
 
 pub keeps_below : (c d : Constraint) → IsStronger c d → IsWellMade c.kind c.first c.second → (trace : List ℕ)
     → Keeps nat_eq c.kind c.first c.second trace → Keeps nat_eq d.kind d.first d.second trace
-keeps_below c d (directly h) made trace keeps =
-    let f = follows c d h in
-    from_places d.kind d.first d.second (f.made made) trace (f.kept trace (to_places c.kind c.first c.second made trace keeps))
+keeps_below c d (directly h) made trace keeps = (follows c d h).kept made trace keeps
 keeps_below c d (through {d = e} h more) made trace keeps =
     let f = follows c e h in
-    keeps_below e d more (f.made made) trace (from_places e.kind e.first e.second (f.made made) trace (f.kept trace (to_places c.kind c.first c.second made trace keeps)))
+    keeps_below e d more (f.made made) trace (f.kept made trace keeps)

@@ -3,3 +3,5 @@ pub mod Hierarchy
 pub mod Names
 pub mod Numbers
 pub mod Tables
+-- Internal: tests that an automaton is the least one.
+pub mod Least

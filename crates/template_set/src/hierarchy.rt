@@ -28,12 +28,19 @@ fn leads_down(above: &Constraint, below: &Constraint) -> bool
 {
     for next in directly_below(above) {
         if let Some(next) = next {
-            if next == *below || leads_down(&next, below) {
+            if are_same(&next, below) || leads_down(&next, below) {
                 return true;
             }
         }
     }
     false
+}
+
+/// Whether two constraints are the same one.
+fn are_same(one: &Constraint, other: &Constraint) -> bool
+    ensures { IsTrue result ↔ (one.now ≡ other.now) }
+{
+    one == other
 }
 
 /// What the list of the hierarchy has directly below a constraint.
@@ -89,14 +96,46 @@ fn directly_below(above: &Constraint) -> [Option<Constraint>; 4]
         Kind::NotCoExistence => [
             onward(Kind::NotSuccession),
             back(Kind::NotSuccession),
+            onward(Kind::NotRespondedExistence),
+            back(Kind::NotRespondedExistence),
+        ],
+        Kind::NotSuccession => [
+            onward(Kind::NotChainSuccession),
+            onward(Kind::NotResponse),
+            onward(Kind::NotPrecedence),
+            None,
+        ],
+        Kind::NotChainSuccession => [
+            onward(Kind::NotChainResponse),
+            onward(Kind::NotChainPrecedence),
             None,
             None,
         ],
-        Kind::NotSuccession => [onward(Kind::NotChainSuccession), None, None, None],
+        Kind::Exactly { n } => [
+            onward(Kind::AtLeast { n }),
+            onward(Kind::AtMost { n }),
+            None,
+            None,
+        ],
+        Kind::AtLeast { n: 1 } => [onward(Kind::Participation), None, None, None],
+        Kind::AtLeast { n: n @ 2.. } => [onward(Kind::AtLeast { n: n - 1 }), None, None, None],
+        Kind::AtMost { n: 1 } => [onward(Kind::AtMostOne), None, None, None],
+        Kind::AtMostOne => [onward(Kind::AtMost { n: 2 }), None, None, None],
+        Kind::AtMost { n: n @ 2..9 } => [onward(Kind::AtMost { n: n + 1 }), None, None, None],
+        Kind::NotRespondedExistence => [
+            onward(Kind::NotResponse),
+            back(Kind::NotPrecedence),
+            None,
+            None,
+        ],
+        Kind::NotResponse => [onward(Kind::NotChainResponse), None, None, None],
+        Kind::NotPrecedence => [onward(Kind::NotChainPrecedence), None, None, None],
         Kind::Participation
-        | Kind::AtMostOne
         | Kind::RespondedExistence
-        | Kind::NotChainSuccession => [None; 4],
+        | Kind::NotChainResponse
+        | Kind::NotChainPrecedence
+        | Kind::AtLeast { n: 0 }
+        | Kind::AtMost { .. } => [None; 4],
     }
 }
 

@@ -1,4 +1,4 @@
-//! The eighteen templates by their kind: tables, numbers, names, and the places of a trace.
+//! The fifty templates by their kind: tables, numbers, names, and the places of a trace.
 #![tactic(auto)]
 
 mod dispatch;

@@ -1,17 +1,11 @@
 ghost use Rattle.std.specs.Prelude.{◌≡◌, ℕ, List, nat_eq};
-ghost use Rattle.template_core.specs.Constraints.{arity, IsWellMade};
+ghost use Rattle.template_core.specs.Constraints.{arity, IsTemplate, IsWellMade};
 ghost use Rattle.template_core.specs.Counts.{counts_of, traces_of, targets_of, AreCounts};
 ghost use Rattle.template_core.specs.Repertoire.{activated, fulfilled};
 ghost use Rattle.template_set.specs.Numbers.{numbers_of};
 
 use crate::dispatch::with_template;
 use template_core::{Activation, Counts, Group, Kind, Template, group_of};
-use templates_neg::{NotChainSuccession, NotCoExistence, NotSuccession};
-use templates_pair::{
-    AlternatePrecedence, AlternateResponse, AlternateSuccession, ChainPrecedence, ChainResponse,
-    ChainSuccession, CoExistence, Precedence, RespondedExistence, Response, Succession,
-};
-use templates_unary::{AtMostOne, End, Init, Participation};
 
 /// A constraint's numbers of a log.
 #[derive(Clone, Copy, Debug, PartialEq, Eq)]
@@ -32,7 +26,7 @@ pub fn counts_of(kind: Kind, counts: &Counts) -> Numbers
     ensures { (a b : ℕ) (log : List (List ℕ)) → IsWellMade kind a b → counts.now ≡ counts_of kind a b log
         → result ≡ numbers_of kind a b log }
 {
-    let places = with_template!(kind, places_by(counts));
+    let places = with_template!(kind, places_by(kind, counts));
     let with = traces_of(kind, counts);
     Numbers {
         activated: places.activated,
@@ -48,13 +42,15 @@ struct Places {
     fulfilled: u64,
 }
 
-fn places_by<T: Template>(counts: &Counts) -> Places
+/// The kind is the template's.
+fn places_by<T: Template>(kind: Kind, counts: &Counts) -> Places
     requires used { T.in_use }
-    requires counts { AreCounts T.kind counts.now }
-    ensures activated { (a b : ℕ) (log : List (List ℕ)) → IsWellMade T.kind a b → counts.now ≡ counts_of T.kind a b log
-        → result.activated ≡ activated nat_eq T.kind a b log }
-    ensures fulfilled { (a b : ℕ) (log : List (List ℕ)) → IsWellMade T.kind a b → counts.now ≡ counts_of T.kind a b log
-        → result.fulfilled ≡ fulfilled nat_eq T.kind a b log }
+    requires is { kind ≡ T.kind }
+    requires counts { AreCounts kind counts.now }
+    ensures activated { (a b : ℕ) (log : List (List ℕ)) → IsWellMade kind a b → counts.now ≡ counts_of kind a b log
+        → result.activated ≡ activated nat_eq kind a b log }
+    ensures fulfilled { (a b : ℕ) (log : List (List ℕ)) → IsWellMade kind a b → counts.now ≡ counts_of kind a b log
+        → result.fulfilled ≡ fulfilled nat_eq kind a b log }
 {
     Places {
         activated: T::activations(counts),
@@ -100,14 +96,17 @@ fn traces_of(kind: Kind, counts: &Counts) -> Traces
 
 /// The number of a template's activities.
 pub fn arity(kind: Kind) -> u8
+    requires { IsTemplate kind }
     ensures { result ≡ arity kind }
 {
-    with_template!(kind, arity_by())
+    with_template!(kind, arity_by(kind))
 }
 
-fn arity_by<T: Template>() -> u8
-    requires { T.in_use }
-    ensures { result ≡ arity T.kind }
+/// The kind is the template's.
+fn arity_by<T: Template>(kind: Kind) -> u8
+    requires used { T.in_use }
+    requires is { kind ≡ T.kind }
+    ensures { result ≡ arity kind }
 {
     T::ARITY
 }

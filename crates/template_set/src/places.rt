@@ -8,13 +8,7 @@ ghost use Rattle.template_core.specs.Tests.{has, has_later, has_earlier, has_nex
 ghost use Rattle.template_core.specs.declared.group.Group.TheVariants.{Existence};
 
 use crate::dispatch::with_template;
-use template_core::{Activation, Constraint, Group, Kind, group_of, keeps as keeps_by};
-use templates_neg::{NotChainSuccession, NotCoExistence, NotSuccession};
-use templates_pair::{
-    AlternatePrecedence, AlternateResponse, AlternateSuccession, ChainPrecedence, ChainResponse,
-    ChainSuccession, CoExistence, Precedence, RespondedExistence, Response, Succession,
-};
-use templates_unary::{AtMostOne, End, Init, Participation};
+use template_core::{Activation, Constraint, Group, Kind, Template, group_of, keeps as keeps_template};
 
 /// Whether a trace keeps a constraint, by its automaton.
 pub fn keeps(constraint: &Constraint, trace: &[u32]) -> bool
@@ -22,6 +16,16 @@ pub fn keeps(constraint: &Constraint, trace: &[u32]) -> bool
     ensures { IsTrue result ↔ Keeps nat_eq constraint.now.kind constraint.now.first constraint.now.second trace.now }
 {
     with_template!(constraint.kind, keeps_by(constraint, trace))
+}
+
+/// The constraint's kind is the template's.
+fn keeps_by<T: Template>(constraint: &Constraint, trace: &[u32]) -> bool
+    requires used { T.in_use }
+    requires is { constraint.now.kind ≡ T.kind }
+    requires made { IsWellMade constraint.now.kind constraint.now.first constraint.now.second }
+    ensures { IsTrue result ↔ Keeps nat_eq constraint.now.kind constraint.now.first constraint.now.second trace.now }
+{
+    keeps_template::<T>(constraint, trace)
 }
 
 /// Whether a place of a trace holds: it isn't activated, or it is fulfilled.
@@ -62,6 +66,9 @@ fn place_fulfilled(constraint: &Constraint, trace: &[u32], place: usize) -> bool
         Kind::End => ends_with(constraint.first, trace),
         Kind::Participation => occurs(constraint.first, trace),
         Kind::AtMostOne => occurrences(constraint.first, trace) < 2,
+        Kind::Exactly { n } => occurrences(constraint.first, trace) == n as usize,
+        Kind::AtLeast { n } => occurrences(constraint.first, trace) >= n as usize,
+        Kind::AtMost { n } => occurrences(constraint.first, trace) <= n as usize,
         Kind::ChainSuccession
         | Kind::AlternateSuccession
         | Kind::Succession
@@ -75,7 +82,12 @@ fn place_fulfilled(constraint: &Constraint, trace: &[u32], place: usize) -> bool
         | Kind::RespondedExistence
         | Kind::NotCoExistence
         | Kind::NotSuccession
-        | Kind::NotChainSuccession => place < trace.len()
+        | Kind::NotChainSuccession
+        | Kind::NotRespondedExistence
+        | Kind::NotResponse
+        | Kind::NotPrecedence
+        | Kind::NotChainResponse
+        | Kind::NotChainPrecedence => place < trace.len()
             && event_fulfilled(
                 constraint,
                 &trace[..place],
@@ -93,7 +105,6 @@ fn event_fulfilled(constraint: &Constraint, before: &[u32], event: u32, after: &
     let first = constraint.first;
     let second = constraint.second;
     match constraint.kind {
-        Kind::Init | Kind::End | Kind::Participation | Kind::AtMostOne => false,
         Kind::ChainSuccession => chain_succession(constraint, before, event, after),
         Kind::AlternateSuccession => alternate_succession(constraint, before, event, after),
         Kind::Succession => succession(constraint, before, event, after),
@@ -108,6 +119,18 @@ fn event_fulfilled(constraint: &Constraint, before: &[u32], event: u32, after: &
         Kind::NotCoExistence => !co_existence(constraint, before, event, after),
         Kind::NotSuccession => !succession(constraint, before, event, after),
         Kind::NotChainSuccession => !chain_succession(constraint, before, event, after),
+        Kind::NotRespondedExistence => !has(second, before, event, after),
+        Kind::NotResponse => !occurs(second, after),
+        Kind::NotPrecedence => !occurs(first, before),
+        Kind::NotChainResponse => !begins_with(second, after),
+        Kind::NotChainPrecedence => !ends_with(first, before),
+        Kind::Init
+        | Kind::End
+        | Kind::Participation
+        | Kind::AtMostOne
+        | Kind::Exactly { .. }
+        | Kind::AtLeast { .. }
+        | Kind::AtMost { .. } => false,
     }
 }
 

@@ -1,31 +1,38 @@
-ghost use Rattle.std.specs.Prelude.{◌≤◌};
+ghost use Rattle.std.specs.Prelude.{◌≡◌, ◌≤◌, true};
+ghost use Rattle.std.specs.List.{range_with_len};
+ghost use Rattle.template_core.specs.Constraints.{IsTemplate};
 ghost use Rattle.template_core.specs.Tables.{IsTable};
+ghost use Rattle.template_set.specs.Least.{is_least, told};
 ghost use Rattle.template_set.specs.Tables.{IsTableBy, Accepts, IsLeastTable, most_states};
 
 use crate::dispatch::with_template;
 use template_core::{Class, Kind, Table, Template};
-use templates_neg::{NotChainSuccession, NotCoExistence, NotSuccession};
-use templates_pair::{
-    AlternatePrecedence, AlternateResponse, AlternateSuccession, ChainPrecedence, ChainResponse,
-    ChainSuccession, CoExistence, Precedence, RespondedExistence, Response, Succession,
-};
-use templates_unary::{AtMostOne, End, Init, Participation};
 
 /// The template's automaton. Its states are numbered breadth first from its start, 0, over First, Second and Other.
 /// No event is the second of a template of one activity: that column repeats Other.
+#[tactic(auto, unfolding(template_core::specs::Events::all_places, crate::specs::Tables::first_seen))]
 pub fn table_of(kind: Kind) -> Table
+    requires { IsTemplate kind }
     ensures table { IsTable result }
     ensures accepts { Accepts kind result }
     ensures least { IsLeastTable kind result }
     ensures few { result.states ≤ most_states kind }
 {
-    with_template!(kind, table_by())
+    with_template!(kind, table_by(kind))
 }
 
-fn table_by<T: Template>() -> Table
-    requires { T.in_use }
+/// The kind is the template's, whose automaton is the least one.
+fn table_by<T: Template>(kind: Kind) -> Table
+    requires used { T.in_use }
+    requires is { kind ≡ T.kind }
+    requires start { T.start_state ≡ 0 }
+    requires few { T.state_count ≤ most_states T.kind }
+    requires least { is_least T.kind T.next_state T.is_accepting T.state_count ≡ true }
+    requires order { told T.kind T.next_state T.is_accepting T.state_count ≡ range_with_len 0 T.state_count }
     ensures table { IsTable result }
-    ensures accepts { Accepts T.kind result }
+    ensures accepts { Accepts kind result }
+    ensures least { IsLeastTable kind result }
+    ensures few { result.states ≤ most_states kind }
     ensures by { IsTableBy T.state_count T.start_state T.next_state T.is_accepting result }
 {
     let mut next = [[0; 3]; 12];

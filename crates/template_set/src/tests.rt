@@ -1,4 +1,5 @@
 ghost use Rattle.std.specs.Prelude.{◌<◌};
+ghost use Rattle.template_core.specs.Constraints.{IsTemplate};
 ghost use Rattle.template_core.specs.Tables.{IsTable};
 
 use crate::{arity, keeps, kind_of, kinds, name, place_activated, place_holds, stronger, table_of};
@@ -23,7 +24,9 @@ fn accepts(table: &Table, number: u32, length: u32) -> bool
 }
 
 /// The words of up to five classes that a template's table accepts: how many, and the sum of their numbers.
-fn accepted(kind: Kind) -> (u32, u32) {
+fn accepted(kind: Kind) -> (u32, u32)
+    requires { IsTemplate kind }
+{
     let table = table_of(kind);
     let mut count: u32 = 0;
     let mut sum: u32 = 0;
@@ -60,9 +63,26 @@ fn tables_accept_the_words_that_keep(rt: HostRuntime) {
         (Kind::NotCoExistence, 120, 11227),
         (Kind::NotSuccession, 192, 16314),
         (Kind::NotChainSuccession, 232, 20928),
+        (Kind::Exactly { n: 2 }, 111, 9471),
+        (Kind::AtLeast { n: 4 }, 12, 363),
+        (Kind::AtMost { n: 2 }, 303, 29646),
+        (Kind::NotRespondedExistence, 120, 11227),
+        (Kind::NotResponse, 192, 16314),
+        (Kind::NotPrecedence, 192, 16314),
+        (Kind::NotChainResponse, 232, 20928),
+        (Kind::NotChainPrecedence, 232, 20928),
     ] {
         assert_eq!(rt; accepted(kind), (count, sum), "{kind:?}");
     }
+}
+
+/// Nine events of the activity are kept, and ten are not.
+#[test]
+fn the_longest_table_counts_to_ten(rt: HostRuntime) {
+    let table = table_of(Kind::AtMost { n: 9 });
+    assert_eq!(rt; table.states, 11);
+    assert!(rt; accepts(&table, 0, 9));
+    assert!(rt; !accepts(&table, 0, 10));
 }
 
 /// An a, an a and then a b: two a's respond to one b, which does for Response alone.
@@ -82,8 +102,10 @@ fn names_and_arities(rt: HostRuntime) {
             two = two.wrapping_add(1);
         }
     }
-    assert_eq!(rt; two, 14);
-    for text in ["participation", "Response ", "", "AtLeast2"] {
+    assert_eq!(rt; two, 19);
+    for text in [
+        "participation", "Response ", "", "AtLeast", "Exactly0", "AtLeast10", "exactly2",
+    ] {
         assert_eq!(rt; kind_of(text), None, "{text}");
     }
 }
@@ -115,7 +137,7 @@ fn below(kind: Kind) -> (u32, u32) {
 fn how_many_stand_below(rt: HostRuntime) {
     for (kind, counts) in [
         (Kind::Participation, (0, 0)),
-        (Kind::AtMostOne, (0, 0)),
+        (Kind::AtMostOne, (8, 0)),
         (Kind::ChainSuccession, (10, 2)),
         (Kind::AlternateSuccession, (7, 2)),
         (Kind::Succession, (4, 2)),
@@ -127,9 +149,18 @@ fn how_many_stand_below(rt: HostRuntime) {
         (Kind::AlternatePrecedence, (1, 1)),
         (Kind::Precedence, (0, 1)),
         (Kind::RespondedExistence, (0, 0)),
-        (Kind::NotCoExistence, (2, 2)),
-        (Kind::NotSuccession, (1, 0)),
-        (Kind::NotChainSuccession, (0, 0)),
+        (Kind::NotCoExistence, (7, 7)),
+        (Kind::NotSuccession, (5, 0)),
+        (Kind::NotChainSuccession, (2, 0)),
+        (Kind::Exactly { n: 1 }, (12, 0)),
+        (Kind::Exactly { n: 3 }, (11, 0)),
+        (Kind::AtLeast { n: 3 }, (3, 0)),
+        (Kind::AtMost { n: 3 }, (6, 0)),
+        (Kind::AtMost { n: 9 }, (0, 0)),
+        (Kind::NotRespondedExistence, (2, 2)),
+        (Kind::NotResponse, (1, 0)),
+        (Kind::NotPrecedence, (1, 0)),
+        (Kind::NotChainResponse, (0, 0)),
     ] {
         assert_eq!(rt; below(kind), counts, "{kind:?}");
     }
@@ -159,6 +190,21 @@ fn places_of_a_trace(rt: HostRuntime) {
             over(Kind::AtMostOne, 0, 0),
             [false, false, false, true],
             [true, true, true, false],
+        ),
+        (
+            over(Kind::Exactly { n: 2 }, 0, 0),
+            [false, false, false, true],
+            [true, true, true, true],
+        ),
+        (
+            over(Kind::NotChainResponse, 0, 1),
+            [true, false, true, false],
+            [false, true, true, true],
+        ),
+        (
+            over(Kind::NotPrecedence, 0, 1),
+            [false, true, false, false],
+            [true, false, true, true],
         ),
     ] {
         for place in 0..4 {

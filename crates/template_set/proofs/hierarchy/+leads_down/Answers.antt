@@ -1,25 +1,25 @@
 use Rattle.std.proofs.Common.{◌≡◌, ◌⊎◌, ◌<◌, ◌≤◌, length, rules, slice_index_or, None, Some, sym, subst, ◌∙◌, refl, arith, inl, inr, ⊎_elim}
 use Rattle.std.proofs.lemmas.Bool.{false≢true}
 use Rattle.template_core.specs.declared.constraint.Constraint.{Constraint}
-use Rattle.template_set.proofs.Rows.{height, lower_listed, up, listed_at, one_more, none_leads, same_is}
+use Rattle.template_set.proofs.Rows.{height, lower_listed, up, listed_at, one_more, none_leads}
 use Rattle.template_set.proofs.hierarchy.+leads_down.Goals as goal
-use Rattle.template_set.proofs.hierarchy.+leads_down.Goals.{then-eq-via-then-eq, then-eq-via-else-eq+then-leads_down, in-Some+else-eq+else-leads_down, in_default}
+use Rattle.template_set.proofs.hierarchy.+leads_down.Goals.{then-are_same-via-then-are_same, then-are_same-via-else-are_same+then-leads_down, in-Some+else-are_same+else-leads_down, in_default}
 use Rattle.template_set.specs.Hierarchy.{IsStronger}
 
 pub leads_down-requires : goal.leads_down-requires
 leads_down-requires t c =
     let less : height c.in-Some.next.kind < height c.args.above.now.kind
-    = lower_listed _ _ (listed_at c.args.above.now c.directly_below-next-items.result c.loop-next.next-index c.in-Some.next c.loop-next.invariant.rows c.in-Some.is) in
+    = lower_listed c.args.above.now c.in-Some.next (listed_at c.args.above.now c.directly_below-next-items.result c.loop-next.next-index c.in-Some.next c.loop-next.invariant.rows c.in-Some.is) in
     let is : height c.args.above.now.kind ≡ t = c.decreases in
     (omega arith, tt)
 
-pub returns-then-eq : goal.returns-then-eq
-returns-then-eq t c =
+pub returns-then-are_same : goal.returns-then-are_same
+returns-then-are_same t c =
     let listed = listed_at c.args.above.now c.directly_below-next-items.result c.loop-next.next-index c.in-Some.next c.loop-next.invariant.rows c.in-Some.is in
     let found : (c.in-Some.next ≡ c.args.below.now) ⊎ IsStronger c.in-Some.next c.args.below.now
-    = elim c.then-eq.branch [
-      | then-eq-via-then-eq w ↦ inl ((same_is c.in-Some.next c.args.below.now c.eq.result c.eq.ensures).0 w.if-eq.true)
-      | then-eq-via-else-eq+then-leads_down w ↦ inr (w.leads_down.ensures.0 w.if-leads_down.true)
+    = elim c.then-are_same.branch [
+      | then-are_same-via-then-are_same w ↦ inl (c.are_same.ensures.0 w.if-are_same.true)
+      | then-are_same-via-else-are_same+then-leads_down w ↦ inr (w.leads_down.ensures.0 w.if-leads_down.true)
     ] in
     (λ e. up c.args.above.now c.args.below.now c.in-Some.next listed found, λ h. refl)
 
@@ -34,9 +34,9 @@ loop-next-preserved t c = record {
 
     here : (e : Constraint) → slice_index_or c.directly_below-next-items.result c.loop-next.next-index None ≡ Some e → (e ≡ c.args.below.now) ⊎ IsStronger e c.args.below.now → ⊥
     here e at = elim c.match-next.branch [
-      | in-Some+else-eq+else-leads_down w ↦
+      | in-Some+else-are_same+else-leads_down w ↦
           not_next e c.args.below.now w.in-Some.next (sym w.in-Some.is ∙ at)
-          (λ same. false≢true (sym w.if-eq.false ∙ (same_is w.in-Some.next c.args.below.now w.eq.result w.eq.ensures).1 same))
+          (λ same. false≢true (sym w.if-are_same.false ∙ w.are_same.ensures.1 same))
           (λ h. false≢true (sym w.if-leads_down.false ∙ w.leads_down.ensures.1 h))
       | in_default w ↦ λ q. w.in_default.not-Some e at
     ]

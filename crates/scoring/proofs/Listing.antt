@@ -5,13 +5,17 @@ use Rattle.std.specs.Cmp.{IsTotalOrder}
 use Rattle.std.specs.List.{AllByRecursion, range_with_len, flat_map}
 use Rattle.std.specs.List.Sorted.{IsStrictlySortedBy}
 use Rattle.std.specs.Ordering.{eq_by_cmp, on}
+use Rattle.std.proofs.lemmas.List.Kept.{IsStrictlySortedBy-filter}
+use Rattle.std.proofs.lemmas.Map.Keys.{sorted_head, sorted_tail}
 use Rattle.std.proofs.lemmas.Bool.Decides.{nat_tests}
 use Rattle.template_core.specs.Constraints.{number_of}
 use Rattle.template_core.specs.declared.constraint.Constraint.{Constraint}
 use Rattle.template_core.specs.declared.kind.Kind.{Kind}
 use Rattle.template_set.specs.Names.{all_kinds}
 use Rattle.template_core.specs.Groups.{takes}
-use Rattle.scoring.specs.Candidates.{constraint_of, constraints_from, constraints_of, constraints_over}
+use Rattle.template_core.specs.Repertoires.{is_candidate}
+use Rattle.template_core.specs.declared.repertoire.Repertoire.{Repertoire}
+use Rattle.scoring.specs.Candidates.{constraint_of, mined_kinds, constraints_from, constraints_of, constraints_over}
 use Rattle.scoring.specs.Priority.{constraint_cmp}
 use Rattle.scoring.proofs.Orders.{count-cons}
 
@@ -56,14 +60,6 @@ module _ {X : Type 0} (R : X → X → Ordering) where
   unfolding IsStrictlySortedBy
   sorted-cons x xs all rest = (all, rest)
 
-  sorted-head : (x : X) (xs : List X) → IsStrictlySortedBy R (x ∷ xs) → AllByRecursion (λ y. R x y ≡ Less) xs
-  unfolding IsStrictlySortedBy
-  sorted-head x xs h = h.0
-
-  sorted-tail : (x : X) (xs : List X) → IsStrictlySortedBy R (x ∷ xs) → IsStrictlySortedBy R xs
-  unfolding IsStrictlySortedBy
-  sorted-tail x xs h = h.1
-
   sorted-nil : IsStrictlySortedBy R []
   unfolding IsStrictlySortedBy
   sorted-nil = tt
@@ -72,25 +68,17 @@ module _ {X : Type 0} (R : X → X → Ordering) where
   sorted-append : (xs ys : List X) → IsStrictlySortedBy R xs → IsStrictlySortedBy R ys → AllByRecursion (λ x. AllByRecursion (λ y. R x y ≡ Less) ys) xs → IsStrictlySortedBy R (xs ++ ys)
   sorted-append [] ys h k cross = k
   sorted-append (x ∷ xs) ys h k cross =
-      sorted-cons R x (xs ++ ys) (all-append (λ y. R x y ≡ Less) xs ys (sorted-head R x xs h) cross.0) (sorted-append xs ys (sorted-tail R x xs h) k cross.1)
-
-  sorted-filter : (p : X → Bool) (xs : List X) → IsStrictlySortedBy R xs → IsStrictlySortedBy R (filter p xs)
-  sorted-filter p [] h = h
-  sorted-filter p (x ∷ xs) h = go (p x) (sorted-filter p xs (sorted-tail R x xs h))
-    where
-      go : (v : Bool) → IsStrictlySortedBy R (filter p xs) → IsStrictlySortedBy R (cond v (x ∷ filter p xs) (filter p xs))
-      go true rest = sorted-cons R x (filter p xs) (all-filter (λ y. R x y ≡ Less) (λ y. R x y ≡ Less) p (λ y e _. e) xs (sorted-head R x xs h)) rest
-      go false rest = rest
+      sorted-cons R x (xs ++ ys) (all-append (λ y. R x y ≡ Less) xs ys (sorted_head R x xs h) cross.0) (sorted-append xs ys (sorted_tail R x xs h) k cross.1)
 
   sorted-map : {Y : Type 0} (S : Y → Y → Ordering) (f : Y → X) → ((x y : Y) → S x y ≡ Less → R (f x) (f y) ≡ Less) → (xs : List Y) → IsStrictlySortedBy S xs → IsStrictlySortedBy R (map f xs)
   sorted-map S f h [] k = sorted-nil R
   sorted-map S f h (x ∷ xs) k =
-      sorted-cons R (f x) (map f xs) (all-map (λ y. S x y ≡ Less) (λ v. R (f x) v ≡ Less) f (λ y e. h x y e) xs (sorted-head S x xs k)) (sorted-map S f h xs (sorted-tail S x xs k))
+      sorted-cons R (f x) (map f xs) (all-map (λ y. S x y ≡ Less) (λ v. R (f x) v ≡ Less) f (λ y e. h x y e) xs (sorted_head S x xs k)) (sorted-map S f h xs (sorted_tail S x xs k))
 
   -- at most one element ties with z
   pub once_from_strictly : IsTotalOrder R → (z : X) (xs : List X) → IsStrictlySortedBy R xs → count_by (eq_by_cmp R z) xs ≤ 1
   once_from_strictly o z [] h = omega arith
-  once_from_strictly o z (x ∷ xs) h = go (R z x) refl (once_from_strictly o z xs (sorted-tail R x xs h))
+  once_from_strictly o z (x ∷ xs) h = go (R z x) refl (once_from_strictly o z xs (sorted_tail R x xs h))
     where
       none : (ys : List X) → R z x ≡ Equal → AllByRecursion (λ y. R x y ≡ Less) ys → count_by (eq_by_cmp R z) ys ≡ 0
       none [] e all = refl
@@ -98,7 +86,7 @@ module _ {X : Type 0} (R : X → X → Ordering) where
 
       go : (r : Ordering) → R z x ≡ r → count_by (eq_by_cmp R z) xs ≤ 1 → count_by (eq_by_cmp R z) (x ∷ xs) ≤ 1
       go Less e rest = rw (count-cons (eq_by_cmp R z) x xs, e) (omega arith)
-      go Equal e rest = rw (count-cons (eq_by_cmp R z) x xs, none xs e (sorted-head R x xs h), e) (omega arith)
+      go Equal e rest = rw (count-cons (eq_by_cmp R z) x xs, none xs e (sorted_head R x xs h), e) (omega arith)
       go Greater e rest = rw (count-cons (eq_by_cmp R z) x xs, e) (omega arith)
 
 module _ {X Y : Type 0} (R : Y → Y → Ordering) (S : X → X → Ordering) (f : X → List Y) where
@@ -106,10 +94,10 @@ module _ {X Y : Type 0} (R : Y → Y → Ordering) (S : X → X → Ordering) (f
       → ((x y : X) (u v : Y) → S x y ≡ Less → P x u → P y v → R u v ≡ Less) → (xs : List X) → IsStrictlySortedBy S xs → IsStrictlySortedBy R (flat_map f xs)
   sorted-flat_map P of each apart [] h = sorted-nil R
   sorted-flat_map P of each apart (x ∷ xs) h =
-      sorted-append R (f x) (flat_map f xs) (each x) (sorted-flat_map P of each apart xs (sorted-tail S x xs h))
+      sorted-append R (f x) (flat_map f xs) (each x) (sorted-flat_map P of each apart xs (sorted_tail S x xs h))
       (all-cross (P x) (λ v. (u : Y) → P x u → R u v ≡ Less) (λ u v. R u v ≡ Less) (λ u v p q. q u p) (f x) (flat_map f xs) (of x)
       (all-flat_map (λ y. S x y ≡ Less) (λ v. (u : Y) → P x u → R u v ≡ Less) f
-      (λ y e. all_and (P y) (λ v. (u : Y) → P x u → R u v ≡ Less) (λ v q u p. apart x y u v e p q) (f y) (of y)) xs (sorted-head S x xs h)))
+      (λ y e. all_and (P y) (λ v. (u : Y) → P x u → R u v ≡ Less) (λ v q u p. apart x y u v e p q) (f y) (of y)) xs (sorted_head S x xs h)))
 
 less_is : (m n : ℕ) → m < n → nat_cmp m n ≡ Less
 less_is m n h = grind (arith, nat_tests)
@@ -140,14 +128,14 @@ number_cmp = on number_of nat_cmp
 
 sorted-back : {X Y : Type 0} (f : X → Y) (R : Y → Y → Ordering) (xs : List X) → IsStrictlySortedBy R (map f xs) → IsStrictlySortedBy (on f R) xs
 sorted-back f R [] h = sorted-nil (on f R)
-sorted-back f R (x ∷ xs) h = sorted-cons (on f R) x xs (go xs (sorted-head R (f x) (map f xs) h)) (sorted-back f R xs (sorted-tail R (f x) (map f xs) h))
+sorted-back f R (x ∷ xs) h = sorted-cons (on f R) x xs (go xs (sorted_head R (f x) (map f xs) h)) (sorted-back f R xs (sorted_tail R (f x) (map f xs) h))
   where
     go : (ys : List _) → AllByRecursion (λ v. R (f x) v ≡ Less) (map f ys) → AllByRecursion (λ y. R (f x) (f y) ≡ Less) ys
     go [] all = tt
     go (y ∷ ys) all = (all.0, go ys all.1)
 
 sorted-kinds : IsStrictlySortedBy number_cmp all_kinds
-sorted-kinds = sorted-back number_of nat_cmp all_kinds (let e : map number_of all_kinds ≡ range_with_len 1 18 = refl in subst (IsStrictlySortedBy nat_cmp) (sym e) (sorted-range 1 18))
+sorted-kinds = sorted-back number_of nat_cmp all_kinds (let e : map number_of all_kinds ≡ range_with_len 1 50 = refl in subst (IsStrictlySortedBy nat_cmp) (sym e) (sorted-range 1 50))
 
 -- a constraint of a template with this first rank
 record IsFrom (kind : Kind) (first : ℕ) (c : Constraint) : Type 0 where
@@ -172,7 +160,7 @@ sorted-from : (n : ℕ) (kind : Kind) (first : ℕ) → IsStrictlySortedBy const
 unfolding constraints_from
 sorted-from n kind first =
     sorted-map constraint_cmp nat_cmp (constraint_of kind first) (λ x y e. less_second (constraint_of kind first x) (constraint_of kind first y) refl refl e)
-    (filter (takes kind first) (range_with_len 0 n)) (sorted-filter nat_cmp (takes kind first) (range_with_len 0 n) (sorted-range 0 n))
+    (filter (takes kind first) (range_with_len 0 n)) (IsStrictlySortedBy-filter nat_cmp (takes kind first) (range_with_len 0 n) (sorted-range 0 n))
 
 of_is : (n : ℕ) (kind : Kind) → AllByRecursion (λ c. c.kind ≡ kind) (constraints_of n kind)
 unfolding constraints_of
@@ -186,8 +174,8 @@ sorted-of n kind =
     sorted-flat_map constraint_cmp nat_cmp (constraints_from n kind) (IsFrom kind) (from_is n kind) (sorted-from n kind)
     (λ x y u v e p q. less_first u v (p.kind_is ∙ sym q.kind_is) (rw (p.first_is, q.first_is) e)) (range_with_len 0 n) (sorted-range 0 n)
 
-pub sorted-over : (n : ℕ) → IsStrictlySortedBy constraint_cmp (constraints_over n)
+pub sorted-over : (repertoire : Repertoire) (n : ℕ) → IsStrictlySortedBy constraint_cmp (constraints_over (mined_kinds repertoire) n)
 unfolding constraints_over
-sorted-over n =
+sorted-over repertoire n =
     sorted-flat_map constraint_cmp number_cmp (constraints_of n) (λ kind c. c.kind ≡ kind) (of_is n) (sorted-of n)
-    (λ x y u v e p q. less_kind u v (rw (p, q) e)) all_kinds sorted-kinds
+    (λ x y u v e p q. less_kind u v (rw (p, q) e)) (mined_kinds repertoire) (IsStrictlySortedBy-filter number_cmp (is_candidate repertoire) all_kinds sorted-kinds)

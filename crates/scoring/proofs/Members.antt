@@ -1,21 +1,24 @@
 -- Which constraints and which scores a list of candidates has.
-use Rattle.std.proofs.Common.{◌≡◌, ◌↔◌, ℕ, zero, suc, ◌<◌, List, [], ◌∷◌, ◌++◌, Bool, true, false, cond, map, filter, fold, Ordering, refl, sym, ap, subst, ◌∙◌, arith}
-use Rattle.std.specs.Bool.{⊤}
+use Rattle.std.proofs.Common.{◌≡◌, ◌↔◌, ℕ, zero, suc, ◌<◌, ◌≤◌, List, [], ◌∷◌, ◌++◌, Bool, true, false, cond, map, filter, fold, length, Ordering, refl, sym, ap, subst, ◌∙◌, arith}
 use Rattle.std.specs.List.{AllByRecursion, Contains, range_with_len, flat_map}
 use Rattle.std.specs.Ordering.{is_lt}
-use Rattle.std.proofs.lemmas.List.Elements.{All-from_recursion, All-contains, Contains-append_left, Contains-append_right}
+use Rattle.std.proofs.lemmas.List.Elements.{All-from_recursion, recursion_from_All, All-contains, Contains-get_or, Contains-append_left, Contains-append_right}
+use Rattle.std.proofs.lemmas.List.Sums.{length-filter, count_by-le-length}
 use Rattle.std.proofs.lemmas.List.FromFn.{get_or-range_with_len, length-range_with_len}
 use Rattle.decl_base.specs.declared.threshold.Thresholds.{Thresholds}
 use Rattle.template_core.specs.declared.constraint.Constraint.{Constraint}
 use Rattle.template_core.specs.declared.kind.Kind.{Kind}
-use Rattle.template_core.specs.declared.kind.Kind.TheVariants.{Init, End, Participation, AtMostOne, ChainSuccession, AlternateSuccession, Succession, CoExistence, ChainResponse, AlternateResponse, Response, ChainPrecedence, AlternatePrecedence, Precedence, RespondedExistence, NotCoExistence, NotSuccession, NotChainSuccession}
+use Rattle.template_core.specs.declared.repertoire.Repertoire.{Repertoire}
 use Rattle.template_set.specs.Names.{all_kinds}
+use Rattle.template_set.proofs.EachKind.{each_kind, all_templates}
+use Rattle.template_core.specs.Constraints.{IsTemplate}
 use Rattle.template_core.specs.Groups.{takes}
-use Rattle.scoring.specs.Candidates.{constraint_of, constraints_from, constraints_of, constraints_over, IsConstraintOver, reaches_all, reaching, candidates_of, IsCandidate}
+use Rattle.template_core.specs.Repertoires.{is_candidate}
+use Rattle.scoring.specs.Candidates.{constraint_of, mined_kinds, constraints_from, constraints_of, constraints_over, IsConstraintOver, reaches_all, reaching, candidates_of, IsCandidate}
 use Rattle.scoring.specs.Priority.{priority_cmp, insert_in_order, in_order}
 use Rattle.scoring.specs.Scores.{scored_from, scored}
 use Rattle.scoring.specs.declared.scored.Scored.{Scored}
-use Rattle.scoring.proofs.Listing.{all-any, all-map, all-filter, all-flat_map, each_below}
+use Rattle.scoring.proofs.Listing.{all_and, all-map, all-filter, all-flat_map, each_below}
 use Rattle.scoring.proofs.Orders.{in_order-all}
 
 Contains-here : {X : Type 0} (x : X) (xs : List X) → Contains (x ∷ xs) x
@@ -80,74 +83,80 @@ module _ {X : Type 0} (R : X → X → Ordering) where
   in_order-has : (y : X) (xs : List X) → Contains xs y → Contains (in_order R xs) y
   in_order-has y xs h = fold-has y [] xs h
 
-has_kind : (kind : Kind) → Contains all_kinds kind
-has_kind Init = (0, omega arith, refl)
-has_kind End = (1, omega arith, refl)
-has_kind Participation = (2, omega arith, refl)
-has_kind AtMostOne = (3, omega arith, refl)
-has_kind ChainSuccession = (4, omega arith, refl)
-has_kind AlternateSuccession = (5, omega arith, refl)
-has_kind Succession = (6, omega arith, refl)
-has_kind CoExistence = (7, omega arith, refl)
-has_kind ChainResponse = (8, omega arith, refl)
-has_kind AlternateResponse = (9, omega arith, refl)
-has_kind Response = (10, omega arith, refl)
-has_kind ChainPrecedence = (11, omega arith, refl)
-has_kind AlternatePrecedence = (12, omega arith, refl)
-has_kind Precedence = (13, omega arith, refl)
-has_kind RespondedExistence = (14, omega arith, refl)
-has_kind NotCoExistence = (15, omega arith, refl)
-has_kind NotSuccession = (16, omega arith, refl)
-has_kind NotChainSuccession = (17, omega arith, refl)
+has_kind : (kind : Kind) → IsTemplate kind → Contains all_kinds kind
+has_kind = each_kind (Contains all_kinds) (λ place other h. Contains-get_or all_kinds place other h)
 
--- the constraints over n ranks
-over_has : (n : ℕ) (c : Constraint) → IsConstraintOver n c → Contains (constraints_over n) c
+-- the constraints of a repertoire over n ranks
+abbrev IsMinedOver : Repertoire → ℕ → Constraint → Type 0
+IsMinedOver repertoire n c = IsConstraintOver n c × (is_candidate repertoire c.kind ≡ true)
+
+over_has : (repertoire : Repertoire) (n : ℕ) (c : Constraint) → IsMinedOver repertoire n c → Contains (constraints_over (mined_kinds repertoire) n) c
 unfolding constraints_over constraints_of constraints_from
-over_has n c h =
-    Contains-flat_map (constraints_of n) c.kind c all_kinds (has_kind c.kind)
+over_has repertoire n c (h, mined) =
+    Contains-flat_map (constraints_of n) c.kind c (mined_kinds repertoire) (Contains-filter (is_candidate repertoire) c.kind all_kinds mined (has_kind c.kind h.template))
     (Contains-flat_map (constraints_from n c.kind) c.first c (range_with_len 0 n) (Contains-range n c.first h.first)
     (Contains-map (constraint_of c.kind c.first) c.second (filter (takes c.kind c.first) (range_with_len 0 n))
     (Contains-filter (takes c.kind c.first) c.second (range_with_len 0 n) h.takes (Contains-range n c.second h.second))))
 
-pub over_all : (n : ℕ) → AllByRecursion (IsConstraintOver n) (constraints_over n)
+kinds_all : (repertoire : Repertoire) → AllByRecursion (λ kind. IsTemplate kind × (is_candidate repertoire kind ≡ true)) (mined_kinds repertoire)
+kinds_all repertoire =
+    all-filter IsTemplate (λ kind. IsTemplate kind × (is_candidate repertoire kind ≡ true)) (is_candidate repertoire) (λ kind t e. (t, e)) all_kinds
+    (recursion_from_All IsTemplate all_kinds all_templates)
+
+pub mined_templates : (repertoire : Repertoire) → AllByRecursion IsTemplate (mined_kinds repertoire)
+mined_templates repertoire = all_and (λ kind. IsTemplate kind × (is_candidate repertoire kind ≡ true)) IsTemplate (λ kind h. h.0) (mined_kinds repertoire) (kinds_all repertoire)
+
+pub mined_few : (repertoire : Repertoire) → length (mined_kinds repertoire) ≤ 50
+mined_few repertoire =
+    let fifty : length all_kinds ≡ 50 = refl in
+    omega (arith, fifty, length-filter (is_candidate repertoire) all_kinds, count_by-le-length (is_candidate repertoire) all_kinds)
+
+over_mined : (repertoire : Repertoire) (n : ℕ) → AllByRecursion (IsMinedOver repertoire n) (constraints_over (mined_kinds repertoire) n)
 unfolding constraints_over constraints_of constraints_from
-over_all n =
-    all-flat_map (λ _. ⊤) (IsConstraintOver n) (constraints_of n)
-    (λ kind _. all-flat_map (λ first. first < n) (IsConstraintOver n) (constraints_from n kind)
-    (λ first h. all-map (λ second. (second < n) × (takes kind first second ≡ true)) (IsConstraintOver n) (constraint_of kind first)
-    (λ second k. record { first = h; second = k.0; takes = k.1 }) (filter (takes kind first) (range_with_len 0 n))
+over_mined repertoire n =
+    all-flat_map (λ kind. IsTemplate kind × (is_candidate repertoire kind ≡ true)) (IsMinedOver repertoire n) (constraints_of n)
+    (λ kind p. all-flat_map (λ first. first < n) (IsMinedOver repertoire n) (constraints_from n kind)
+    (λ first h. all-map (λ second. (second < n) × (takes kind first second ≡ true)) (IsMinedOver repertoire n) (constraint_of kind first)
+    (λ second k. (record { template = p.0; first = h; second = k.0; takes = k.1 }, p.1)) (filter (takes kind first) (range_with_len 0 n))
     (all-filter (λ second. second < n) (λ second. (second < n) × (takes kind first second ≡ true)) (takes kind first) (λ second k e. (k, e)) (range_with_len 0 n) (each_below n)))
-    (range_with_len 0 n) (each_below n)) all_kinds (all-any (λ _. ⊤) (λ _. tt) all_kinds)
+    (range_with_len 0 n) (each_below n)) (mined_kinds repertoire) (kinds_all repertoire)
+
+pub over_all : (repertoire : Repertoire) (n : ℕ) → AllByRecursion (IsConstraintOver n) (constraints_over (mined_kinds repertoire) n)
+over_all repertoire n = all_and (IsMinedOver repertoire n) (IsConstraintOver n) (λ c h. h.0) (constraints_over (mined_kinds repertoire) n) (over_mined repertoire n)
 
 from_all : {X : Type 0} (P : X → Type 0) (xs : List X) (x : X) → AllByRecursion P xs → Contains xs x → P x
 from_all P xs x all h = All-contains P xs x (All-from_recursion P xs all) h
 
-pub constraints_are : (n : ℕ) (c : Constraint) → Contains (constraints_over n) c ↔ IsConstraintOver n c
-constraints_are n c = (from_all (IsConstraintOver n) (constraints_over n) c (over_all n), over_has n c)
+pub constraints_are : (repertoire : Repertoire) (n : ℕ) (c : Constraint)
+    → Contains (constraints_over (mined_kinds repertoire) n) c ↔ IsConstraintOver n c × (is_candidate repertoire c.kind ≡ true)
+constraints_are repertoire n c =
+    (from_all (IsMinedOver repertoire n) (constraints_over (mined_kinds repertoire) n) c (over_mined repertoire n), over_has repertoire n c)
 
 pub scored-constraint : (log : List (List ℕ)) (c : Constraint) → (scored log c).constraint ≡ c
 unfolding scored scored_from
 scored-constraint log c = refl
 
--- the candidates
-reaching_all : (log : List (List ℕ)) (n : ℕ) (thresholds : Thresholds) → AllByRecursion (IsCandidate log n thresholds) (reaching log n thresholds)
-unfolding reaching
-reaching_all log n thresholds =
-    all-filter (λ s. IsConstraintOver n s.constraint × (s ≡ scored log s.constraint)) (IsCandidate log n thresholds) (reaches_all thresholds)
-    (λ s h e. record { over = h.0; scores = h.1; reaches = e }) (map (scored log) (constraints_over n))
-    (all-map (IsConstraintOver n) (λ s. IsConstraintOver n s.constraint × (s ≡ scored log s.constraint)) (scored log)
-    (λ c h. (subst (IsConstraintOver n) (sym (scored-constraint log c)) h, ap (scored log) (sym (scored-constraint log c)))) (constraints_over n) (over_all n))
+module _ (log : List (List ℕ)) (n : ℕ) (repertoire : Repertoire) (thresholds : Thresholds) where
+  reaching_all : AllByRecursion (IsCandidate log n repertoire thresholds) (reaching log n repertoire thresholds)
+  unfolding reaching
+  reaching_all =
+      all-filter (λ s. IsMinedOver repertoire n s.constraint × (s ≡ scored log s.constraint)) (IsCandidate log n repertoire thresholds) (reaches_all thresholds)
+      (λ s h e. record { over = h.0.0; mined = h.0.1; scores = h.1; reaches = e }) (map (scored log) (constraints_over (mined_kinds repertoire) n))
+      (all-map (IsMinedOver repertoire n) (λ s. IsMinedOver repertoire n s.constraint × (s ≡ scored log s.constraint)) (scored log)
+      (λ c h. (subst (IsMinedOver repertoire n) (sym (scored-constraint log c)) h, ap (scored log) (sym (scored-constraint log c))))
+      (constraints_over (mined_kinds repertoire) n) (over_mined repertoire n))
 
-reaching_has : (log : List (List ℕ)) (n : ℕ) (thresholds : Thresholds) (s : Scored) → IsCandidate log n thresholds s → Contains (reaching log n thresholds) s
-unfolding reaching
-reaching_has log n thresholds s h =
-    Contains-filter (reaches_all thresholds) s (map (scored log) (constraints_over n)) h.reaches
-    (subst (λ v. Contains (map (scored log) (constraints_over n)) v) (sym h.scores) (Contains-map (scored log) s.constraint (constraints_over n) (over_has n s.constraint h.over)))
+  reaching_has : (s : Scored) → IsCandidate log n repertoire thresholds s → Contains (reaching log n repertoire thresholds) s
+  unfolding reaching
+  reaching_has s h =
+      let cs : List Constraint = constraints_over (mined_kinds repertoire) n in
+      Contains-filter (reaches_all thresholds) s (map (scored log) cs) h.reaches
+      (subst (λ v. Contains (map (scored log) cs) v) (sym h.scores) (Contains-map (scored log) s.constraint cs (over_has repertoire n s.constraint (h.over, h.mined))))
 
-pub candidates_are : (log : List (List ℕ)) (n : ℕ) (thresholds : Thresholds) (s : Scored) → Contains (candidates_of log n thresholds) s ↔ IsCandidate log n thresholds s
-unfolding candidates_of
-candidates_are log n thresholds s = (
-  from_all (IsCandidate log n thresholds) (in_order priority_cmp (reaching log n thresholds)) s
-      (in_order-all priority_cmp (IsCandidate log n thresholds) (reaching log n thresholds) (reaching_all log n thresholds)),
-  λ h. in_order-has priority_cmp s (reaching log n thresholds) (reaching_has log n thresholds s h),
-)
+  pub candidates_are : (s : Scored) → Contains (candidates_of log n repertoire thresholds) s ↔ IsCandidate log n repertoire thresholds s
+  unfolding candidates_of
+  candidates_are s = (
+    from_all (IsCandidate log n repertoire thresholds) (in_order priority_cmp (reaching log n repertoire thresholds)) s
+        (in_order-all priority_cmp (IsCandidate log n repertoire thresholds) (reaching log n repertoire thresholds) reaching_all),
+    λ h. in_order-has priority_cmp s (reaching log n repertoire thresholds) (reaching_has s h),
+  )

@@ -1,19 +1,23 @@
 -- The order of priority puts each list of candidates into one order.
-use Rattle.std.proofs.Common.{◌≡◌, ℕ, zero, suc, ◌-◌, ◌<◌, List, [], ◌∷◌, Bool, cond, get_or, count_by, fold, Less, Equal, Greater, Ordering, nat_cmp, refl, sym, ap, ap₂, ◌∙◌, arith}
+use Rattle.std.proofs.Common.{◌≡◌, ℕ, zero, suc, ◌+◌, ◌-◌, ◌<◌, List, [], ◌∷◌, Bool, cond, length, map, get_or, count_by, fold, Less, Equal, Greater, Ordering, nat_cmp, refl, sym, ap, ap₂, ◌∙◌, arith}
 use Rattle.std.specs.Cmp.{IsTotalOrder, nat_cmp_total, then_total, back_total, on_total}
-use Rattle.std.specs.List.{AllByRecursion}
+use Rattle.std.specs.List.{AllByRecursion, range_with_len}
 use Rattle.std.specs.List.Sorted.{IsPermutation, IsSortedBy}
 use Rattle.std.specs.Ordering.{is_lt, ordering_then, on, flip_args, then_cmp, eq_by_cmp}
 use Rattle.std.proofs.lemmas.Bool.Decides.{nat_tests}
+use Rattle.std.proofs.lemmas.List.{get_or-map}
+use Rattle.std.proofs.lemmas.List.FromFn.{get_or-range_with_len}
 use Rattle.std.proofs.lemmas.List.Elements.{All-from_recursion, recursion_from_All}
 use Rattle.std.proofs.lemmas.List.Sorted.{All-permutation, sum_by-IsPermutation}
 use Rattle.decl_base.specs.Fraction.{Fraction, fraction_cmp}
 use Rattle.decl_base.proofs.Orders.{ordered}
-use Rattle.template_core.specs.Constraints.{number_of}
+use Rattle.template_core.specs.Constraints.{number_of, IsTemplate}
 use Rattle.template_core.specs.declared.constraint.Constraint.{Constraint}
 use Rattle.template_core.specs.declared.kind.Kind.{Kind}
-use Rattle.template_core.specs.declared.kind.Kind.TheVariants.{Init, End, Participation, AtMostOne, ChainSuccession, AlternateSuccession, Succession, CoExistence, ChainResponse, AlternateResponse, Response, ChainPrecedence, AlternatePrecedence, Precedence, RespondedExistence, NotCoExistence, NotSuccession, NotChainSuccession}
+use Rattle.template_core.specs.declared.kind.Kind.TheVariants.{Init}
 use Rattle.template_set.specs.Names.{all_kinds}
+use Rattle.template_set.proofs.EachKind.{each_kind}
+use Rattle.interplay_kb.proofs.Events.{same_default}
 use Rattle.scoring.specs.Priority.{constraint_cmp, priority_cmp, insert_in_order, in_order}
 use Rattle.scoring.specs.Scores.{scored, HasScores, IsScored}
 use Rattle.scoring.specs.declared.scored.Scored.{Scored}
@@ -87,54 +91,45 @@ pub answers_soundly : (r : Ordering) (s t : Scored) → r ≡ priority_cmp s t �
 answers_soundly r s t e p q = ap is_lt (e ∙ sound_priority-agrees s t p q)
 
 -- a template is the one of its number
-kind-at : (kind : Kind) → get_or all_kinds (number_of kind - 1) Init ≡ kind
-kind-at Init = refl
-kind-at End = refl
-kind-at Participation = refl
-kind-at AtMostOne = refl
-kind-at ChainSuccession = refl
-kind-at AlternateSuccession = refl
-kind-at Succession = refl
-kind-at CoExistence = refl
-kind-at ChainResponse = refl
-kind-at AlternateResponse = refl
-kind-at Response = refl
-kind-at ChainPrecedence = refl
-kind-at AlternatePrecedence = refl
-kind-at Precedence = refl
-kind-at RespondedExistence = refl
-kind-at NotCoExistence = refl
-kind-at NotSuccession = refl
-kind-at NotChainSuccession = refl
+number-at : (place : ℕ) (other : Kind) → place < length all_kinds → number_of (get_or all_kinds place other) ≡ 1 + place
+number-at place other h =
+    let each : map number_of all_kinds ≡ range_with_len 1 50 = refl in
+    sym (get_or-map number_of all_kinds place other 0 h) ∙ ap (λ ns. get_or ns place 0) each ∙ get_or-range_with_len 1 50 place 0 h
 
-pub same_kind : (k l : Kind) → number_of k ≡ number_of l → k ≡ l
-same_kind k l e = sym (kind-at k) ∙ ap (λ n. get_or all_kinds (n - 1) Init) e ∙ kind-at l
+kind-at : (kind : Kind) → IsTemplate kind → get_or all_kinds (number_of kind - 1) Init ≡ kind
+kind-at =
+    each_kind (λ kind. get_or all_kinds (number_of kind - 1) Init ≡ kind)
+    (λ place other h. let back : number_of (get_or all_kinds place other) - 1 ≡ place = omega (arith, number-at place other h) in
+    ap (λ n. get_or all_kinds n Init) back ∙ same_default all_kinds place Init other h)
+
+same_kind : (k l : Kind) → IsTemplate k → IsTemplate l → number_of k ≡ number_of l → k ≡ l
+same_kind k l p q e = sym (kind-at k p) ∙ ap (λ n. get_or all_kinds (n - 1) Init) e ∙ kind-at l q
 
 both_equal : (r s : Ordering) → ordering_then r s ≡ Equal → (r ≡ Equal) × (s ≡ Equal)
 both_equal Less s e = absurd (cc)
 both_equal Equal s e = (refl, e)
 both_equal Greater s e = absurd (cc)
 
-pub constraint-same : (c d : Constraint) → constraint_cmp c d ≡ Equal → c ≡ d
-constraint-same c d e =
+constraint-same : (c d : Constraint) → IsTemplate c.kind → IsTemplate d.kind → constraint_cmp c d ≡ Equal → c ≡ d
+constraint-same c d p q e =
     let number = both_equal (nat_cmp (number_of c.kind) (number_of d.kind)) _ e in
     let ranks = both_equal (nat_cmp c.first d.first) _ number.1 in
     let make : Kind → ℕ → ℕ → Constraint = λ kind first second. record { kind = kind; first = first; second = second } in
-    let kind : c.kind ≡ d.kind = same_kind c.kind d.kind (is_equal _ _ number.0) in
+    let kind : c.kind ≡ d.kind = same_kind c.kind d.kind p q (is_equal _ _ number.0) in
     let first : c.first ≡ d.first = is_equal c.first d.first ranks.0 in
     let second : c.second ≡ d.second = is_equal c.second d.second ranks.1 in
     ap (λ k. make k c.first c.second) kind ∙ ap (λ n. make d.kind n c.second) first ∙ ap (λ n. make d.kind d.first n) second
 
-pub sound_priority-constraint : (s t : Scored) → sound_priority s t ≡ Equal → s.constraint ≡ t.constraint
+pub sound_priority-tied : (s t : Scored) → sound_priority s t ≡ Equal → constraint_cmp s.constraint t.constraint ≡ Equal
 unfolding sound_priority
-sound_priority-constraint s t e =
+sound_priority-tied s t e =
     let support = both_equal (sound_cmp t.support s.support) _ e in
     let confidence = both_equal (sound_cmp t.confidence s.confidence) _ support.1 in
-    let interest = both_equal (sound_cmp t.interest s.interest) _ confidence.1 in
-    constraint-same s.constraint t.constraint interest.1
+    (both_equal (sound_cmp t.interest s.interest) _ confidence.1).1
 
-pub scored-same : (log : List (List ℕ)) (s t : Scored) → IsScored log s → IsScored log t → sound_priority s t ≡ Equal → s ≡ t
-scored-same log s t p q e = p.scores ∙ ap (scored log) (sound_priority-constraint s t e) ∙ sym q.scores
+scored-same : (log : List (List ℕ)) (s t : Scored) → IsScored log s → IsScored log t → sound_priority s t ≡ Equal → s ≡ t
+scored-same log s t p q e =
+    p.scores ∙ ap (scored log) (constraint-same s.constraint t.constraint p.template q.template (sound_priority-tied s t e)) ∙ sym q.scores
 
 -- two orders that agree on the elements put them into the same order
 module _ {X : Type 0} (R S : X → X → Ordering) (P : X → Type 0) (agree : (x y : X) → P x → P y → R x y ≡ S x y) where

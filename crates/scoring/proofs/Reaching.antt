@@ -1,6 +1,5 @@
 -- Scores have denominators, and reach a threshold in lowest terms or before.
 use Rattle.std.proofs.Common.{◌≡◌, ℕ, zero, suc, ◌+◌, ◌*◌, ◌<◌, ◌≤◌, List, [], ◌∷◌, Bool, true, false, cond, nat_le, nat_eq, length, count_by, map, filter, refl, sym, ap, ap₂, subst, ◌∙◌, arith, ⊎_elim}
-use Rattle.std.specs.Cmp.{tied_itself}
 use Rattle.std.specs.List.{AllByRecursion}
 use Rattle.std.specs.List.Sorted.{IsStrictlySortedBy}
 use Rattle.std.specs.Ordering.{eq_by_cmp, is_eq}
@@ -12,9 +11,11 @@ use Rattle.decl_base.specs.Fraction.{lowest_terms, greatest_common_divisor}
 use Rattle.decl_base.specs.Threshold.{is_met}
 use Rattle.decl_base.specs.declared.threshold.Thresholds.{Thresholds}
 use Rattle.decl_base.proofs.Divisors.{IsMultiple-of_lowest}
+use Rattle.template_core.specs.Constraints.{IsTemplate}
 use Rattle.template_core.specs.Repertoire.{activated}
+use Rattle.template_core.specs.declared.repertoire.Repertoire.{Repertoire}
 use Rattle.template_core.specs.declared.constraint.Constraint.{Constraint}
-use Rattle.scoring.specs.Candidates.{constraints_over, IsConstraintOver, reaches_all, reaching, candidates_of, EachOccurs}
+use Rattle.scoring.specs.Candidates.{mined_kinds, constraints_over, IsConstraintOver, reaches_all, reaching, candidates_of, EachOccurs}
 use Rattle.scoring.specs.Priority.{constraint_cmp, priority_cmp, in_order}
 use Rattle.scoring.specs.Scores.{scored_from, scored, HasScores, IsScored}
 use Rattle.scoring.specs.Search.{reaching_of}
@@ -23,7 +24,7 @@ use Rattle.scoring.proofs.Listing.{all-map, all-filter, once_from_strictly, sort
 use Rattle.scoring.proofs.Members.{over_all, scored-constraint}
 use Rattle.scoring.proofs.Numbers.{activated_over, traces_over}
 use Rattle.scoring.proofs.Orders.{count-cons, tied, in_order-count, in_order-rises, in_order-all, strictly_from_rises}
-use Rattle.scoring.proofs.Priorities.{sound_priority, sound_priority-total, sound_priority-agrees, sound_priority-constraint, constraint_total, in_order-agree}
+use Rattle.scoring.proofs.Priorities.{sound_priority, sound_priority-total, sound_priority-agrees, sound_priority-tied, constraint_total, in_order-agree}
 
 left_factor : (d g b : ℕ) → d * g ≡ b → 0 < b → 0 < d
 left_factor zero g b e h = absurd (omega arith)
@@ -71,6 +72,7 @@ HasScores-scored log c some traces =
 -- over a log where each rank occurs
 pub IsScored-scored : (log : List (List ℕ)) (n : ℕ) (c : Constraint) → EachOccurs n log → IsConstraintOver n c → IsScored log (scored log c)
 IsScored-scored log n c each over = record {
+  template = subst IsTemplate (ap (λ d. d.kind) (sym (scored-constraint log c))) over.template;
   scores = ap (scored log) (sym (scored-constraint log c));
   has = HasScores-scored log c (activated_over log n c each over) (traces_over log n c each over);
 }
@@ -82,13 +84,16 @@ reaching_of-scored log n thresholds cs each all =
     all-filter (IsScored log) (IsScored log) (reaches_all thresholds) (λ s h e. h) (map (scored log) cs)
     (all-map (IsConstraintOver n) (IsScored log) (scored log) (λ c over. IsScored-scored log n c each over) cs all)
 
-pub reaching-is : (log : List (List ℕ)) (n : ℕ) (thresholds : Thresholds) → reaching log n thresholds ≡ reaching_of log thresholds (constraints_over n)
+pub reaching-is : (log : List (List ℕ)) (n : ℕ) (repertoire : Repertoire) (thresholds : Thresholds)
+    → reaching log n repertoire thresholds ≡ reaching_of log thresholds (constraints_over (mined_kinds repertoire) n)
 unfolding reaching reaching_of
-reaching-is log n thresholds = refl
+reaching-is log n repertoire thresholds = refl
 
-pub reaching_scored : (log : List (List ℕ)) (n : ℕ) (thresholds : Thresholds) → EachOccurs n log → AllByRecursion (IsScored log) (reaching log n thresholds)
-reaching_scored log n thresholds each =
-    subst (AllByRecursion (IsScored log)) (sym (reaching-is log n thresholds)) (reaching_of-scored log n thresholds (constraints_over n) each (over_all n))
+pub reaching_scored : (log : List (List ℕ)) (n : ℕ) (repertoire : Repertoire) (thresholds : Thresholds) → EachOccurs n log
+    → AllByRecursion (IsScored log) (reaching log n repertoire thresholds)
+reaching_scored log n repertoire thresholds each =
+    subst (AllByRecursion (IsScored log)) (sym (reaching-is log n repertoire thresholds))
+    (reaching_of-scored log n thresholds (constraints_over (mined_kinds repertoire) n) each (over_all repertoire n))
 
 -- no two candidates tie
 tied_constraint : (log : List (List ℕ)) (p : Scored → Bool) (z : Scored) (cs : List Constraint)
@@ -100,8 +105,8 @@ tied_constraint log p z (c ∷ cs) =
     left : (r : Ordering) → sound_priority z (scored log c) ≡ r → cond (is_eq r) 1 0 ≤ cond (eq_by_cmp constraint_cmp z.constraint c) 1 0
     left Less e = omega arith
     left Equal e =
-        let same : z.constraint ≡ c = sound_priority-constraint z (scored log c) e ∙ scored-constraint log c in
-        rw (same, tied_itself constraint_total c) (omega arith)
+        let same : constraint_cmp z.constraint c ≡ Equal = ap (constraint_cmp z.constraint) (sym (scored-constraint log c)) ∙ sound_priority-tied z (scored log c) e in
+        rw same (omega arith)
     left Greater e = omega arith
 
     go : (v : Bool) → tied sound_priority sound_priority-total z (filter p (map (scored log) cs)) ≤ count_by (eq_by_cmp constraint_cmp z.constraint) cs
@@ -120,20 +125,21 @@ strictly-agree {X} R S P agree (x ∷ xs) all h = (go xs all.1 h.0, strictly-agr
     go [] all h = tt
     go (y ∷ ys) all' h = (agree x y all.0 all'.0 ∙ h.0, go ys all'.1 h.1)
 
-pub candidates_ascending : (log : List (List ℕ)) (n : ℕ) (thresholds : Thresholds) → EachOccurs n log → IsStrictlySortedBy priority_cmp (candidates_of log n thresholds)
+pub candidates_ascending : (log : List (List ℕ)) (n : ℕ) (repertoire : Repertoire) (thresholds : Thresholds) → EachOccurs n log
+    → IsStrictlySortedBy priority_cmp (candidates_of log n repertoire thresholds)
 unfolding candidates_of reaching
-candidates_ascending log n thresholds each =
-    let xs : List Scored = reaching log n thresholds in
+candidates_ascending log n repertoire thresholds each =
+    let xs : List Scored = reaching log n repertoire thresholds in
     let P : Scored → Type 0 = IsScored log in
-    let all : AllByRecursion P xs = reaching_scored log n thresholds each in
+    let all : AllByRecursion P xs = reaching_scored log n repertoire thresholds each in
     let agree : (s t : Scored) → P s → P t → priority_cmp s t ≡ sound_priority s t = λ s t p q. sound_priority-agrees s t p.has q.has in
     let sorted : IsStrictlySortedBy sound_priority (in_order sound_priority xs) =
     strictly_from_rises sound_priority sound_priority-total (in_order sound_priority xs) (in_order-rises sound_priority sound_priority-total xs)
     (λ z. omega (
       arith,
       in_order-count sound_priority (eq_by_cmp sound_priority z) xs,
-      tied_constraint log (reaches_all thresholds) z (constraints_over n),
-      once_from_strictly constraint_cmp constraint_total z.constraint (constraints_over n) (sorted-over n),
+      tied_constraint log (reaches_all thresholds) z (constraints_over (mined_kinds repertoire) n),
+      once_from_strictly constraint_cmp constraint_total z.constraint (constraints_over (mined_kinds repertoire) n) (sorted-over repertoire n),
     )) in
     subst (IsStrictlySortedBy priority_cmp) (sym (in_order-agree priority_cmp sound_priority P agree xs all))
     (strictly-agree priority_cmp sound_priority P agree (in_order sound_priority xs) (in_order-all sound_priority P xs all) sorted)

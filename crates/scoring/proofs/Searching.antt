@@ -10,10 +10,9 @@ use Rattle.interplay_kb.specs.Ranks.{TellsOf, kb_of, rank_count}
 use Rattle.interplay_kb.specs.declared.ranked.RankedKb.{RankedKb}
 use Rattle.template_core.specs.declared.constraint.Constraint.{Constraint}
 use Rattle.template_core.specs.declared.kind.Kind.{Kind}
-use Rattle.template_core.specs.declared.kind.Kind.TheVariants.{Init}
-use Rattle.template_set.specs.Names.{all_kinds}
+use Rattle.template_core.specs.declared.repertoire.Repertoire.{Repertoire}
 use Rattle.template_core.specs.Groups.{takes}
-use Rattle.scoring.specs.Candidates.{constraint_of, constraints_over, reaches_all, reaching, candidates_of, EachOccurs}
+use Rattle.scoring.specs.Candidates.{constraint_of, mined_kinds, constraints_over, reaches_all, reaching, candidates_of, EachOccurs}
 use Rattle.scoring.specs.Conditions.{HasEachEvent}
 use Rattle.scoring.specs.Found.{Holds}
 use Rattle.scoring.specs.Priority.{priority_cmp, in_order}
@@ -22,6 +21,7 @@ use Rattle.scoring.specs.Search.{taken, constraints_at, constraints_by_pair, rea
 use Rattle.scoring.specs.declared.found.Found.{Found}
 use Rattle.scoring.specs.declared.scored.Scored.{Scored}
 use Rattle.scoring.proofs.ByPair.{same_reaching, length-count, by_pair_all}
+use Rattle.scoring.proofs.Members.{mined_templates}
 use Rattle.scoring.proofs.Orders.{in_order-count}
 use Rattle.scoring.proofs.Priorities.{in_order-same}
 use Rattle.scoring.proofs.Reaching.{reaching-is, reaching_of-scored, reaching_scored}
@@ -69,6 +69,11 @@ module _ (counters : RankedKb) (thresholds : Thresholds) where
         (g.holds log (before ++ reaching_of log thresholds cs) told (f.holds log before told h));
   }
 
+-- the templates are those of a repertoire
+pub finds_mined : (counters : RankedKb) (repertoire : Repertoire) (thresholds : Thresholds) (old new : Found) {kinds : List Kind} → kinds ≡ mined_kinds repertoire
+    → Finds counters thresholds (constraints_by_pair kinds (rank_count counters)) old new → Finds counters thresholds (constraints_by_pair (mined_kinds repertoire) (rank_count counters)) old new
+finds_mined counters repertoire thresholds old new e found = subst (λ ks. Finds counters thresholds (constraints_by_pair ks (rank_count counters)) old new) e found
+
 pub taken-passed : (first second : ℕ) (kind : Kind) → takes kind first second ≡ false → taken first second kind ≡ []
 taken-passed first second kind e = rw e refl
 
@@ -76,39 +81,39 @@ pub taken-is : (first second : ℕ) (kind : Kind) → takes kind first second �
 taken-is first second kind e = rw e refl
 
 -- one more template
-pub kinds-more : {X : Type 0} (f : Kind → List X) (k : ℕ) (kinds : List Kind) → kinds ≡ all_kinds → k < 18
-    → flat_map f (take (k + 1) all_kinds) ≡ flat_map f (take k all_kinds) ++ f (get_or kinds k Init)
-kinds-more f k kinds e h =
-    ap (flat_map f) (take_more all_kinds k Init h ∙ ap (λ ks. take k all_kinds ++ get_or ks k Init ∷ []) (sym e))
-    ∙ flat_map-append f (take k all_kinds) (get_or kinds k Init ∷ []) ∙ ap (λ xs. flat_map f (take k all_kinds) ++ xs) (append-nil (f (get_or kinds k Init)))
+pub kinds-more : {X : Type 0} (f : Kind → List X) (k : ℕ) (other : Kind) (kinds : List Kind) → k < length kinds
+    → flat_map f (take (k + 1) kinds) ≡ flat_map f (take k kinds) ++ f (get_or kinds k other)
+kinds-more f k other kinds h =
+    ap (flat_map f) (take_more kinds k other h)
+    ∙ flat_map-append f (take k kinds) (get_or kinds k other ∷ []) ∙ ap (λ xs. flat_map f (take k kinds) ++ xs) (append-nil (f (get_or kinds k other)))
 
-pub kinds-all : (first second k : ℕ) → 18 ≤ k → constraints_at first second ≡ flat_map (taken first second) (take k all_kinds)
+pub kinds-all : (kinds : List Kind) (first second k : ℕ) → length kinds ≤ k → constraints_at kinds first second ≡ flat_map (taken first second) (take k kinds)
 unfolding constraints_at
-kinds-all first second k h = ap (flat_map (taken first second)) (sym (take_all k all_kinds h))
+kinds-all kinds first second k h = ap (flat_map (taken first second)) (sym (take_all k kinds h))
 
 -- each rank occurs in the log of ranks
 pub each_told : (counters : RankedKb) (log : List (List ℕ)) → TellsOf counters log → HasEachEvent (kb_of counters) → EachOccurs (rank_count counters) log
 each_told counters log told each = λ rank h.
     subst (λ n. 0 < n) (traces_with_told counters log told each.0 each.1 rank h) (each.2 _ (id_known counters log told rank h))
 
-module _ (log : List (List ℕ)) (n : ℕ) (thresholds : Thresholds) where
-  pub found_scored : EachOccurs n log → AllByRecursion (IsScored log) (reaching_of log thresholds (constraints_by_pair n))
-  found_scored each = reaching_of-scored log n thresholds (constraints_by_pair n) each (by_pair_all n)
+module _ (log : List (List ℕ)) (n : ℕ) (repertoire : Repertoire) (thresholds : Thresholds) where
+  pub found_scored : EachOccurs n log → AllByRecursion (IsScored log) (reaching_of log thresholds (constraints_by_pair (mined_kinds repertoire) n))
+  found_scored each = reaching_of-scored log n thresholds (constraints_by_pair (mined_kinds repertoire) n) each (by_pair_all (mined_kinds repertoire) (mined_templates repertoire) n)
 
   -- what the search finds is as much as the candidates, and the candidates in order of priority
-  pub found-length : length (reaching_of log thresholds (constraints_by_pair n)) ≡ length (candidates_of log n thresholds)
+  pub found-length : length (reaching_of log thresholds (constraints_by_pair (mined_kinds repertoire) n)) ≡ length (candidates_of log n repertoire thresholds)
   unfolding candidates_of
   found-length =
-      length-count (reaching_of log thresholds (constraints_by_pair n))
-      ∙ same_reaching log thresholds n (λ (s : Scored). true)
-      ∙ ap (count_by (λ (s : Scored). true)) (sym (reaching-is log n thresholds))
-      ∙ sym (in_order-count priority_cmp (λ (s : Scored). true) (reaching log n thresholds))
-      ∙ sym (length-count (in_order priority_cmp (reaching log n thresholds)))
+      length-count (reaching_of log thresholds (constraints_by_pair (mined_kinds repertoire) n))
+      ∙ same_reaching (mined_kinds repertoire) log thresholds n (λ (s : Scored). true)
+      ∙ ap (count_by (λ (s : Scored). true)) (sym (reaching-is log n repertoire thresholds))
+      ∙ sym (in_order-count priority_cmp (λ (s : Scored). true) (reaching log n repertoire thresholds))
+      ∙ sym (length-count (in_order priority_cmp (reaching log n repertoire thresholds)))
 
-  pub found-in_order : EachOccurs n log → in_order priority_cmp (reaching_of log thresholds (constraints_by_pair n)) ≡ candidates_of log n thresholds
+  pub found-in_order : EachOccurs n log → in_order priority_cmp (reaching_of log thresholds (constraints_by_pair (mined_kinds repertoire) n)) ≡ candidates_of log n repertoire thresholds
   unfolding candidates_of
   found-in_order each =
-      in_order-same log (reaching_of log thresholds (constraints_by_pair n)) (reaching_of log thresholds (constraints_over n))
-      (found_scored each) (subst (AllByRecursion (IsScored log)) (reaching-is log n thresholds) (reaching_scored log n thresholds each))
-      (same_reaching log thresholds n)
-      ∙ ap (in_order priority_cmp) (sym (reaching-is log n thresholds))
+      in_order-same log (reaching_of log thresholds (constraints_by_pair (mined_kinds repertoire) n)) (reaching_of log thresholds (constraints_over (mined_kinds repertoire) n))
+      (found_scored each) (subst (AllByRecursion (IsScored log)) (reaching-is log n repertoire thresholds) (reaching_scored log n repertoire thresholds each))
+      (same_reaching (mined_kinds repertoire) log thresholds n)
+      ∙ ap (in_order priority_cmp) (sym (reaching-is log n repertoire thresholds))

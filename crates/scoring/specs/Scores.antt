@@ -1,6 +1,7 @@
 -- The scores of a constraint over a log.
 use Rattle.std.specs.Prelude.{◌≡◌, ℕ, ◌*◌, ◌<◌, List, length}
 use Rattle.decl_base.specs.Fraction.{lowest_terms}
+use Rattle.template_core.specs.Constraints.{IsTemplate}
 use Rattle.template_core.specs.declared.constraint.Constraint.{Constraint}
 use Rattle.template_set.specs.Numbers.{numbers_of}
 use Rattle.template_set.specs.declared.numbers.Numbers.{Numbers}
@@ -26,7 +27,8 @@ pub record HasScores (s : Scored) : Type 0 where
   pub confidence : 0 < s.confidence.den
   pub interest : 0 < s.interest.den
 
--- a constraint with the scores that it has over a log
+-- a constraint of a template with the scores that it has over a log
 pub record IsScored (log : List (List ℕ)) (s : Scored) : Type 0 where
+  pub template : IsTemplate s.constraint.kind
   pub scores : s ≡ scored log s.constraint
   pub has : HasScores s

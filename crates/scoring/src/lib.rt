@@ -3,6 +3,7 @@
 
 mod found;
 mod laws;
+mod mined;
 mod priority;
 mod scored;
 mod scorer;

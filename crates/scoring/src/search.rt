@@ -1,5 +1,6 @@
 ghost use Rattle.std.specs.Prelude.{◌≡◌, ◌≢◌, ◌<◌, ◌≤◌, ◌+◌, ◌^◌, ℕ, List, Some, None, OnOk, IfErr, if◌then◌else◌};
 ghost use Rattle.interplay_kb.specs.Ranks.{TellsOf, rank_count};
+ghost use Rattle.template_core.specs.Constraints.{IsTemplate};
 ghost use Rattle.template_core.specs.Groups.{takes};
 ghost use Rattle.scoring.specs.Candidates.{IsConstraintOver, reaches_all};
 ghost use Rattle.scoring.specs.Scores.{scored};
@@ -11,7 +12,7 @@ use crate::scorer::reaching;
 use decl_base::{Refusal, Thresholds};
 use interplay_kb::RankedKb;
 use template_core::{Constraint, Counts, Kind, PairCounts, takes};
-use template_set::{counts_of, kinds};
+use template_set::counts_of;
 
 /// The counters of a template of one activity have no pair.
 const NO_PAIR: PairCounts = PairCounts {
@@ -42,16 +43,17 @@ fn turned(counts: &Counts) -> Counts
 #[derive(Clone, Copy)]
 pub(crate) struct Search<'a> {
     pub counters: &'a RankedKb<'a>,
+    pub kinds: &'a [Kind],
     pub thresholds: &'a Thresholds,
 }
 
 impl Search<'_> {
     /// Finds the candidates of all ranks.
     pub fn all(&self, found: &mut Found) -> Result<(), Refusal>
-        requires ready { IsReady self.now.counters.now self.now.thresholds.now }
+        requires ready { IsReady self.now.counters.now self.now.kinds.now self.now.thresholds.now }
         requires room { found.old.count ≡ 0 }
         ensures finds { OnOk result (Finds self.now.counters.now self.now.thresholds.now
-            (constraints_by_pair (rank_count self.now.counters.now)) found.old found.new) }
+            (constraints_by_pair self.now.kinds.now (rank_count self.now.counters.now)) found.old found.new) }
         ensures limit { found.new.limit ≡ found.old.limit }
         ensures err { IfErr result (λ e. e ≡ Refusal.Memory) }
     {
@@ -63,13 +65,13 @@ impl Search<'_> {
 
     /// Finds those of an activity alone, and those of it and each of smaller rank.
     fn of_rank(&self, rank: u32, found: &mut Found) -> Result<(), Refusal>
-        requires ready { IsReady self.now.counters.now self.now.thresholds.now }
+        requires ready { IsReady self.now.counters.now self.now.kinds.now self.now.thresholds.now }
         requires known { rank < rank_count self.now.counters.now }
         requires room { found.old.count ≤ 2 ^ 40 }
         ensures finds { OnOk result (Finds self.now.counters.now self.now.thresholds.now
-            (constraints_with_smaller rank) found.old found.new) }
+            (constraints_with_smaller self.now.kinds.now rank) found.old found.new) }
         ensures limit { found.new.limit ≡ found.old.limit }
-        ensures count { OnOk result (found.new.count ≤ found.old.count + 40000) }
+        ensures count { OnOk result (found.new.count ≤ found.old.count + 100000) }
         ensures err { IfErr result (λ e. e ≡ Refusal.Memory) }
     {
         let alone = self.alone(rank);
@@ -82,14 +84,14 @@ impl Search<'_> {
 
     /// Finds those of two activities, in both orders.
     fn of_two(&self, low: u32, high: u32, found: &mut Found) -> Result<(), Refusal>
-        requires ready { IsReady self.now.counters.now self.now.thresholds.now }
+        requires ready { IsReady self.now.counters.now self.now.kinds.now self.now.thresholds.now }
         requires order { low < high }
         requires known { high < rank_count self.now.counters.now }
-        requires room { found.old.count ≤ 2 ^ 40 + 40000 }
+        requires room { found.old.count ≤ 2 ^ 40 + 100000 }
         ensures finds { OnOk result (Finds self.now.counters.now self.now.thresholds.now
-            (constraints_of_two low high) found.old found.new) }
+            (constraints_of_two self.now.kinds.now low high) found.old found.new) }
         ensures limit { found.new.limit ≡ found.old.limit }
-        ensures count { OnOk result (found.new.count ≤ found.old.count + 36) }
+        ensures count { OnOk result (found.new.count ≤ found.old.count + 100) }
         ensures err { IfErr result (λ e. e ≡ Refusal.Memory) }
     {
         let counts = self.between(low, high);
@@ -99,19 +101,19 @@ impl Search<'_> {
 
     /// Finds those of two ranks in this order; the ranks of one activity are the same.
     fn at(&self, first: u32, second: u32, counts: &Counts, found: &mut Found) -> Result<(), Refusal>
-        requires ready { IsReady self.now.counters.now self.now.thresholds.now }
+        requires ready { IsReady self.now.counters.now self.now.kinds.now self.now.thresholds.now }
         requires first { first < rank_count self.now.counters.now }
         requires second { second < rank_count self.now.counters.now }
         requires counts { HasCounts self.now.counters.now first second counts.now }
-        requires room { found.old.count ≤ 2 ^ 40 + 40018 }
+        requires room { found.old.count ≤ 2 ^ 40 + 100050 }
         ensures finds { OnOk result (Finds self.now.counters.now self.now.thresholds.now
-            (constraints_at first second) found.old found.new) }
+            (constraints_at self.now.kinds.now first second) found.old found.new) }
         ensures limit { found.new.limit ≡ found.old.limit }
-        ensures count { OnOk result (found.new.count ≤ found.old.count + 18) }
+        ensures count { OnOk result (found.new.count ≤ found.old.count + 50) }
         ensures err { IfErr result (λ e. e ≡ Refusal.Memory) }
     {
-        for kind in kinds() {
-            self.visit(kind, first, second, counts, found)?;
+        for kind in self.kinds {
+            self.visit(*kind, first, second, counts, found)?;
         }
         Ok(())
     }
@@ -125,7 +127,8 @@ impl Search<'_> {
         counts: &Counts,
         found: &mut Found,
     ) -> Result<(), Refusal>
-        requires ready { IsReady self.now.counters.now self.now.thresholds.now }
+        requires template { IsTemplate kind }
+        requires ready { IsReady self.now.counters.now self.now.kinds.now self.now.thresholds.now }
         requires first { first < rank_count self.now.counters.now }
         requires second { second < rank_count self.now.counters.now }
         requires counts { HasCounts self.now.counters.now first second counts.now }
@@ -152,7 +155,7 @@ impl Search<'_> {
 
     /// The constraint with its scores, if these reach the thresholds.
     fn score(&self, constraint: Constraint, counts: &Counts) -> Option<Scored>
-        requires ready { IsReady self.now.counters.now self.now.thresholds.now }
+        requires ready { IsReady self.now.counters.now self.now.kinds.now self.now.thresholds.now }
         requires over { IsConstraintOver (rank_count self.now.counters.now) constraint }
         requires counts { HasCounts self.now.counters.now constraint.first constraint.second counts.now }
         ensures { (log : List (List ℕ)) → TellsOf self.now.counters.now log → let scored = scored log constraint in
@@ -164,7 +167,7 @@ impl Search<'_> {
 
     /// The counters of an activity, for the templates of one activity.
     fn alone(&self, rank: u32) -> Counts
-        requires ready { IsReady self.now.counters.now self.now.thresholds.now }
+        requires ready { IsReady self.now.counters.now self.now.kinds.now self.now.thresholds.now }
         requires known { rank < rank_count self.now.counters.now }
         ensures { HasCounts self.now.counters.now rank rank result }
     {
@@ -180,7 +183,7 @@ impl Search<'_> {
 
     /// The counters of two activities, for the templates of two.
     fn between(&self, first: u32, second: u32) -> Counts
-        requires ready { IsReady self.now.counters.now self.now.thresholds.now }
+        requires ready { IsReady self.now.counters.now self.now.kinds.now self.now.thresholds.now }
         requires first { first < rank_count self.now.counters.now }
         requires second { second < rank_count self.now.counters.now }
         requires differ { first ≢ second }

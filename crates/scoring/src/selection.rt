@@ -6,21 +6,24 @@ ghost use Rattle.scoring.specs.Conditions.{HasEachEvent, AreThresholds};
 
 use crate::Scored;
 use crate::found::Found;
+use crate::mined::mined_kinds;
 use crate::priority::sort;
 use crate::search::Search;
 use decl_base::{Refusal, Thresholds};
 use interplay_kb::{Kb, RankedKb};
 use std::alloc::Global;
+use template_core::Repertoire;
 
-/// The candidates of the log that the counters stand for, in the order of priority: the constraints over ranks whose
-/// three scores each reach their threshold. `ranks` has the rank of each id. Each activity has an event, and no trace
-/// is begun.
+/// The candidates of the log that the counters stand for, in the order of priority: the constraints of the repertoire
+/// over ranks whose three scores each reach their threshold. `ranks` has the rank of each id. Each activity has an
+/// event, and no trace is begun.
 ///
 /// `Candidates` where they are more than the limit.
 pub fn candidates(
     alloc: Global,
     kb: &Kb,
     ranks: &[u32],
+    repertoire: Repertoire,
     thresholds: &Thresholds,
     limit: u64,
 ) -> Result<Vec<Scored>, Refusal>
@@ -29,16 +32,18 @@ pub fn candidates(
     requires thresholds { AreThresholds thresholds.now }
 
     ensures list { IfOk result (λ list. (ended : List (List ℕ)) → StandsFor kb.now ended []
-        → list.items ≡ candidates_of (ranked ranks.now ended) (activity_count kb.now) thresholds.now) }
+        → list.items ≡ candidates_of (ranked ranks.now ended) (activity_count kb.now) repertoire thresholds.now) }
     ensures within { IfOk result (λ list. vec_len list ≤ limit) }
 
     ensures cause { IfErr result (λ refusal. (ended : List (List ℕ)) → StandsFor kb.now ended []
-        → CandidatesCause limit (candidates_of (ranked ranks.now ended) (activity_count kb.now) thresholds.now) refusal) }
+        → CandidatesCause limit (candidates_of (ranked ranks.now ended) (activity_count kb.now) repertoire thresholds.now) refusal) }
 {
     let counters = RankedKb::of(alloc, kb, ranks)?;
+    let kinds = mined_kinds(alloc, repertoire)?;
     let mut found = Found::new(alloc, limit);
     let search = Search {
         counters: &counters,
+        kinds: &kinds,
         thresholds,
     };
     search.all(&mut found)?;
@@ -102,9 +107,9 @@ mod tests {
             interest: Threshold { millionths: 0 },
         };
         let kb = two_traces(rt.alloc())?;
-        let refused = candidates(rt.alloc(), &kb, &[1, 0], &thresholds, 12);
+        let refused = candidates(rt.alloc(), &kb, &[1, 0], Repertoire::First, &thresholds, 12);
         assert!(rt; matches!(refused, Err(Refusal::Candidates { count: 13 })));
-        let list = candidates(rt.alloc(), &kb, &[1, 0], &thresholds, 13)?;
+        let list = candidates(rt.alloc(), &kb, &[1, 0], Repertoire::First, &thresholds, 13)?;
         assert_eq!(rt; list.len(), 13);
         for (scored, (kind, first, second, dens)) in list.iter().zip(expected()) {
             let c = scored.constraint;

@@ -22,7 +22,7 @@ loop-rank-preserved c = record {
   limit = c.of_rank.ensures.limit ∙ c.loop-rank.invariant.limit;
   count = omega (arith, c.in_ok-of_rank.ensures.count);
   finds =
-      finds-more c.args.self.now.counters.now c.args.self.now.thresholds.now _ _ _ _ _ _ (pieces_more constraints_with_smaller c.loop-rank.rank)
+      finds-more c.args.self.now.counters.now c.args.self.now.thresholds.now _ _ _ _ _ _ (pieces_more (constraints_with_smaller c.args.self.now.kinds.now) c.loop-rank.rank)
       c.loop-rank.invariant.finds c.in_ok-of_rank.ensures.finds;
 }
 
@@ -30,5 +30,5 @@ pub returns-clause-finds : goal.returns-clause-finds
 unfolding constraints_by_pair
 returns-clause-finds c =
     let whole : c.loop-rank.rank ≡ rank_count c.args.self.now.counters.now = omega (arith, c.loop-rank.invariant.end) in
-    subst (λ k. Finds c.args.self.now.counters.now c.args.self.now.thresholds.now (flat_map constraints_with_smaller (range_with_len 0 k)) c.args.found.now c.loop-rank.found)
+    subst (λ k. Finds c.args.self.now.counters.now c.args.self.now.thresholds.now (flat_map (constraints_with_smaller c.args.self.now.kinds.now) (range_with_len 0 k)) c.args.found.now c.loop-rank.found)
     whole c.loop-rank.invariant.finds

@@ -9,6 +9,6 @@ invariant-loop-rank l = record {
   end : l.rank-end ≡ rank_count l.fn.self.counters.now;
   few : l.rank-end ≤ 1000;
   limit : l.found.limit ≡ l.fn.found.limit;
-  count : l.found.count ≤ l.rank * 40000;
-  finds : Finds l.fn.self.counters.now l.fn.self.thresholds.now (flat_map constraints_with_smaller (range_with_len 0 l.rank)) l.fn.found l.found;
+  count : l.found.count ≤ l.rank * 100000;
+  finds : Finds l.fn.self.counters.now l.fn.self.thresholds.now (flat_map (constraints_with_smaller l.fn.self.kinds.now) (range_with_len 0 l.rank)) l.fn.found l.found;
 }

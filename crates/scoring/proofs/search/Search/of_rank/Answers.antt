@@ -12,7 +12,7 @@ loop-smaller-init c = record {
   count = omega (arith, c.in_ok-at.ensures.count);
   finds =
       subst (λ cs. Finds c.args.self.now.counters.now c.args.self.now.thresholds.now cs c.args.found.now c.at.new.found)
-      (sym (append-nil (constraints_at c.args.rank c.args.rank))) c.in_ok-at.ensures.finds;
+      (sym (append-nil (constraints_at c.args.self.now.kinds.now c.args.rank c.args.rank))) c.in_ok-at.ensures.finds;
 }
 
 pub loop-smaller-preserved : goal.loop-smaller-preserved
@@ -20,18 +20,18 @@ loop-smaller-preserved c = record {
   limit = c.of_two.ensures.limit ∙ c.loop-smaller.invariant.limit;
   count = omega (arith, c.in_ok-of_two.ensures.count);
   finds =
-      let pair = λ (smaller : _). constraints_of_two smaller c.args.rank in
+      let pair = λ (smaller : _). constraints_of_two c.args.self.now.kinds.now smaller c.args.rank in
       let k = c.loop-smaller.smaller in
       finds-more c.args.self.now.counters.now c.args.self.now.thresholds.now _ _ _ _ _ _
-      (ap (λ xs. constraints_at c.args.rank c.args.rank ++ xs) (pieces_more pair k)
-      ∙ sym (append_assoc (constraints_at c.args.rank c.args.rank) (flat_map pair (range_with_len 0 k)) (pair k)))
+      (ap (λ xs. constraints_at c.args.self.now.kinds.now c.args.rank c.args.rank ++ xs) (pieces_more pair k)
+      ∙ sym (append_assoc (constraints_at c.args.self.now.kinds.now c.args.rank c.args.rank) (flat_map pair (range_with_len 0 k)) (pair k)))
       c.loop-smaller.invariant.finds c.in_ok-of_two.ensures.finds;
 }
 
 pub returns-clause-finds : goal.returns-clause-finds
 unfolding constraints_with_smaller
 returns-clause-finds c =
-    let pair = λ (smaller : _). constraints_of_two smaller c.args.rank in
+    let pair = λ (smaller : _). constraints_of_two c.args.self.now.kinds.now smaller c.args.rank in
     subst (λ k. Finds c.args.self.now.counters.now c.args.self.now.thresholds.now
-    (constraints_at c.args.rank c.args.rank ++ flat_map pair (range_with_len 0 k)) c.args.found.now c.loop-smaller.found)
+    (constraints_at c.args.self.now.kinds.now c.args.rank c.args.rank ++ flat_map pair (range_with_len 0 k)) c.args.found.now c.loop-smaller.found)
     (let whole : c.loop-smaller.smaller ≡ c.args.rank = omega arith in whole) c.loop-smaller.invariant.finds

@@ -1,8 +1,8 @@
 -- The form of each template.
-use Rattle.std.specs.Prelude.{List, [], ◌∷◌, true, false}
-use Rattle.regex_forms.specs.Trees.{Tree, set, in_order, one_of, star, parts_of}
+use Rattle.std.specs.Prelude.{List, [], ◌∷◌, ◌++◌, replicate, true, false}
+use Rattle.regex_forms.specs.Trees.{Tree, set, in_order, one_of, star, maybe, parts_of}
 use Rattle.template_core.specs.declared.kind.Kind.{Kind}
-use Rattle.template_core.specs.declared.kind.Kind.TheVariants.{Init, End, Participation, AtMostOne, ChainSuccession, AlternateSuccession, Succession, CoExistence, ChainResponse, AlternateResponse, Response, ChainPrecedence, AlternatePrecedence, Precedence, RespondedExistence, NotCoExistence, NotSuccession, NotChainSuccession}
+use Rattle.template_core.specs.declared.kind.Kind.TheVariants.{Init, End, Participation, AtMostOne, ChainSuccession, AlternateSuccession, Succession, CoExistence, ChainResponse, AlternateResponse, Response, ChainPrecedence, AlternatePrecedence, Precedence, RespondedExistence, NotCoExistence, NotSuccession, NotChainSuccession, Exactly, AtLeast, AtMost, NotRespondedExistence, NotResponse, NotPrecedence, NotChainResponse, NotChainPrecedence}
 
 abbrev pub a : Tree
 a = set true false false
@@ -50,3 +50,11 @@ tree_of RespondedExistence = choice (star bx ∷ sequence (star abx ∷ b ∷ st
 tree_of NotCoExistence = choice (star ax ∷ star bx ∷ [])
 tree_of NotSuccession = sequence (star bx ∷ star ax ∷ [])
 tree_of NotChainSuccession = sequence (star (choice (bx ∷ sequence (a ∷ star a ∷ x ∷ []) ∷ [])) ∷ star a ∷ [])
+tree_of (Exactly n) = sequence (star x ∷ replicate n (sequence (a ∷ star x ∷ [])))
+tree_of (AtLeast n) = sequence (replicate n (sequence (star x ∷ a ∷ [])) ++ star ax ∷ [])
+tree_of (AtMost n) = sequence (star x ∷ replicate n (maybe (sequence (a ∷ star x ∷ []))))
+tree_of NotRespondedExistence = choice (star ax ∷ star bx ∷ [])
+tree_of NotResponse = sequence (star bx ∷ star ax ∷ [])
+tree_of NotPrecedence = sequence (star bx ∷ star ax ∷ [])
+tree_of NotChainResponse = sequence (star (choice (bx ∷ sequence (a ∷ star a ∷ x ∷ []) ∷ [])) ∷ star a ∷ [])
+tree_of NotChainPrecedence = sequence (star (choice (bx ∷ sequence (a ∷ star a ∷ x ∷ []) ∷ [])) ∷ star a ∷ [])

@@ -9,7 +9,7 @@ ghost use Rattle.template_core.specs.Repertoire.{Keeps};
 ghost use Rattle.template_core.specs.Tables.{class};
 ghost use Rattle.template_core.specs.declared.constraint.Constraint.{Constraint};
 
-use crate::{Form, existence, mutual, negative, relation};
+use crate::{Form, counted, existence, mutual, negative, relation};
 use decl_base::Refusal;
 use std::alloc::{AllocError, Global};
 use template_core::Kind;
@@ -45,8 +45,14 @@ fn made(alloc: Global, kind: Kind) -> Result<Form, AllocError>
         Kind::AlternatePrecedence => relation::alternate_precedence(alloc),
         Kind::Precedence => relation::precedence(alloc),
         Kind::RespondedExistence => relation::responded_existence(alloc),
-        Kind::NotCoExistence => negative::not_co_existence(alloc),
-        Kind::NotSuccession => negative::not_succession(alloc),
-        Kind::NotChainSuccession => negative::not_chain_succession(alloc),
+        Kind::NotCoExistence | Kind::NotRespondedExistence => negative::not_co_existence(alloc),
+        Kind::NotSuccession | Kind::NotResponse | Kind::NotPrecedence => negative::not_succession(
+            alloc,
+        ),
+        Kind::Exactly { n } => counted::exactly(alloc, n),
+        Kind::AtLeast { n } => counted::at_least(alloc, n),
+        Kind::AtMost { n } => counted::at_most(alloc, n),
+        Kind::NotChainSuccession | Kind::NotChainResponse | Kind::NotChainPrecedence =>
+            negative::not_chain_succession(alloc),
     }
 }

@@ -2,6 +2,7 @@
 #![tactic(auto)]
 
 mod copying;
+mod counted;
 mod derivatives;
 mod empty;
 mod existence;

@@ -41,12 +41,75 @@ fn forms_have_the_texts_of_the_table(rt: HostRuntime) -> Result<(), Fail> {
         (Kind::NotCoExistence, "[ax]*|[bx]*"),
         (Kind::NotSuccession, "[bx]*[ax]*"),
         (Kind::NotChainSuccession, "([bx]|aa*x)*a*"),
+        (Kind::NotRespondedExistence, "[ax]*|[bx]*"),
+        (Kind::NotResponse, "[bx]*[ax]*"),
+        (Kind::NotPrecedence, "[bx]*[ax]*"),
+        (Kind::NotChainResponse, "([bx]|aa*x)*a*"),
+        (Kind::NotChainPrecedence, "([bx]|aa*x)*a*"),
     ] {
         assert_eq!(rt;
             printed(rt.alloc(), kind)?.as_slice(),
             text.as_bytes(),
             "{kind:?}"
         );
+    }
+    Ok(())
+}
+
+#[test]
+fn counted_forms_have_the_texts_of_the_table(rt: HostRuntime) -> Result<(), Fail> {
+    for (n, exactly, at_least, at_most) in [
+        (1, "x*ax*", "x*a[ax]*", "x*(ax*)?"),
+        (2, "x*ax*ax*", "x*ax*a[ax]*", "x*(ax*)?(ax*)?"),
+        (3, "x*ax*ax*ax*", "x*ax*ax*a[ax]*", "x*(ax*)?(ax*)?(ax*)?"),
+        (
+            4,
+            "x*ax*ax*ax*ax*",
+            "x*ax*ax*ax*a[ax]*",
+            "x*(ax*)?(ax*)?(ax*)?(ax*)?",
+        ),
+        (
+            5,
+            "x*ax*ax*ax*ax*ax*",
+            "x*ax*ax*ax*ax*a[ax]*",
+            "x*(ax*)?(ax*)?(ax*)?(ax*)?(ax*)?",
+        ),
+        (
+            6,
+            "x*ax*ax*ax*ax*ax*ax*",
+            "x*ax*ax*ax*ax*ax*a[ax]*",
+            "x*(ax*)?(ax*)?(ax*)?(ax*)?(ax*)?(ax*)?",
+        ),
+        (
+            7,
+            "x*ax*ax*ax*ax*ax*ax*ax*",
+            "x*ax*ax*ax*ax*ax*ax*a[ax]*",
+            "x*(ax*)?(ax*)?(ax*)?(ax*)?(ax*)?(ax*)?(ax*)?",
+        ),
+        (
+            8,
+            "x*ax*ax*ax*ax*ax*ax*ax*ax*",
+            "x*ax*ax*ax*ax*ax*ax*ax*a[ax]*",
+            "x*(ax*)?(ax*)?(ax*)?(ax*)?(ax*)?(ax*)?(ax*)?(ax*)?",
+        ),
+        (
+            9,
+            "x*ax*ax*ax*ax*ax*ax*ax*ax*ax*",
+            "x*ax*ax*ax*ax*ax*ax*ax*ax*a[ax]*",
+            "x*(ax*)?(ax*)?(ax*)?(ax*)?(ax*)?(ax*)?(ax*)?(ax*)?(ax*)?",
+        ),
+    ] {
+        for (kind, text) in [
+            (Kind::Exactly { n }, exactly),
+            (Kind::AtLeast { n }, at_least),
+            (Kind::AtMost { n }, at_most),
+        ] {
+            assert_eq!(rt;
+                printed(rt.alloc(), kind)?.as_slice(),
+                text.as_bytes(),
+                "{kind:?}"
+            );
+        }
     }
     Ok(())
 }
@@ -70,6 +133,15 @@ fn forms_match_what_keeps_the_template(rt: HostRuntime) -> Result<(), Fail> {
     assert!(rt; !says(alloc, Kind::CoExistence, &[B, X, B])?);
     assert!(rt; says(alloc, Kind::NotChainSuccession, &[A, A, X, B, A])?);
     assert!(rt; !says(alloc, Kind::NotChainSuccession, &[X, A, B])?);
+    assert!(rt; says(alloc, Kind::AtMost { n: 2 }, &[X, A, X, X, A])?);
+    assert!(rt; !says(alloc, Kind::AtMost { n: 2 }, &[A, X, A, A])?);
+    assert!(rt; says(alloc, Kind::AtLeast { n: 2 }, &[X, A, A, X, A])?);
+    assert!(rt; !says(alloc, Kind::AtLeast { n: 2 }, &[X, A, X])?);
+    assert!(rt;
+        says(alloc, Kind::Exactly { n: 1 }, &[X, A, X])?
+            && !says(alloc, Kind::Exactly { n: 1 }, &[])?
+    );
+    assert!(rt; !says(alloc, Kind::Exactly { n: 1 }, &[X, A, A])?);
     Ok(())
 }
 

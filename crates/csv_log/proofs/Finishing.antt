@@ -13,9 +13,9 @@ use Rattle.std.specs.Cmp.Lexicographic.{bytes_decides}
 use Rattle.std.specs.Str.{bytes_eq}
 use Rattle.decl_base.specs.declared.limits.Limits.{Limits}
 use Rattle.event_log.specs.Log.{Traces}
-use Rattle.event_log.specs.Logs.{events_of, has_name, named}
+use Rattle.event_log.specs.Logs.{events_of, has_name, named, StandOnce}
 use Rattle.event_log.proofs.Alphabets.{first_seen-has}
-use Rattle.event_log.proofs.Appearing.{StandOnce, first_seen-once, one_place}
+use Rattle.event_log.proofs.Appearing.{first_seen-once, one_place}
 use Rattle.log_columns.specs.declared.Columns.{Columns}
 use Rattle.log_columns.specs.declared.OrderAs.{OrderAs}
 use Rattle.log_columns.specs.declared.OrderAs.TheVariants as by

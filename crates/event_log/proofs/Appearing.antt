@@ -9,7 +9,7 @@ use Rattle.std.proofs.lemmas.List.Folds.{list_any_at, position_or_len_push}
 use Rattle.std.proofs.lemmas.List.Sums.{fold_push, passes_at_first}
 use Rattle.std.specs.Cmp.Lexicographic.{bytes_decides}
 use Rattle.std.specs.Str.{bytes_eq}
-use Rattle.event_log.specs.Logs.{events_of, first_seen, has_name, place_of, with_name}
+use Rattle.event_log.specs.Logs.{events_of, first_seen, has_name, place_of, with_name, StandOnce}
 use Rattle.event_log.proofs.Naming.{texts}
 
 pub events_of-append : {A : Type 0} (front more : List (List A)) → events_of (front ++ more) ≡ events_of front ++ events_of more
@@ -109,9 +109,6 @@ pub first_seen-push : (names : List (List ℕ)) (name : List ℕ) → first_seen
 first_seen-push names name = fold_push with_name [] names name
 
 -- ---- names that stand once
-
-abbrev pub StandOnce : List (List ℕ) → Type 0
-StandOnce names = (place : ℕ) → place < length names → place_of names (slice_index_or names place []) ≡ place
 
 once-with_name : (names : List (List ℕ)) (name : List ℕ) → StandOnce names → StandOnce (with_name names name)
 once-with_name names name once = λ place inside. ⊎_elim (before place) (behind place inside) (cases_lt place (length names))

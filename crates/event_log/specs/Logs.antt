@@ -18,6 +18,10 @@ has_name names name = list_any (bytes_eq name) names
 abbrev pub place_of : List (List ℕ) → List ℕ → ℕ
 place_of names name = position_or_len (bytes_eq name) names
 
+-- each name stands once: at its place, and nowhere before it
+abbrev pub StandOnce : List (List ℕ) → Type 0
+StandOnce names = (place : ℕ) → place < length names → place_of names (slice_index_or names place []) ≡ place
+
 -- these names, each once, in the order of their bytes
 abbrev pub in_byte_order : List (List ℕ) → List (List ℕ)
 in_byte_order names = fold (insert_key (slice_cmp nat_cmp)) [] names
@@ -45,7 +49,7 @@ named names ids = map (map (λ id. slice_index_or names id [])) ids
 -- numbers that stand for the names of a log: each event is the place of a name, each name stands once, and is that of some event
 pub record IsNumbering (names : List (List ℕ)) (ids : List (List ℕ)) : Type 0 where
   pub inside : All (λ id. id < length names) (events_of ids)
-  pub once : (id : ℕ) → id < length names → place_of names (slice_index_or names id []) ≡ id
+  pub once : StandOnce names
   pub used : (name : List ℕ) → has_name (events_of (named names ids)) name ≡ has_name names name
 
 -- the same where the names stand as they first appear in the log

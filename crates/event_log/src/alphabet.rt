@@ -1,7 +1,7 @@
-ghost use Rattle.std.specs.Prelude.{◌≡◌, ◌≤◌, ◌<◌, ◌^◌, ℕ, [], length, map, Some, position, string_bytes, slice_get, slice_index_or, IfOk, IfErr, OnErr, OnOk};
+ghost use Rattle.std.specs.Prelude.{◌≡◌, ◌≤◌, ◌<◌, ◌^◌, ℕ, [], length, map, Some, position, string_bytes, slice_get, IfOk, IfErr, OnErr, OnOk};
 ghost use Rattle.std.specs.Str.{bytes_eq};
 ghost use Rattle.event_log.specs.Alphabet.{AddCause};
-ghost use Rattle.event_log.specs.Logs.{place_of, with_name, first_seen, in_byte_order};
+ghost use Rattle.event_log.specs.Logs.{place_of, with_name, first_seen, in_byte_order, StandOnce};
 
 use decl_base::Refusal;
 use indexmap::IndexSet;
@@ -89,7 +89,7 @@ impl Alphabet {
 
     /// Each name stands once: at its number, and nowhere else.
     pub fn names_differ(&self)
-        ensures { (id : ℕ) → id < length self.now.names → place_of self.now.names (slice_index_or self.now.names id []) ≡ id }
+        ensures { StandOnce self.now.names }
     {
         let _count = self.names.len();
     }

@@ -6,14 +6,18 @@ use Rattle.std.specs.Option.{is_some}
 use Rattle.template_core.proofs.ByPlaces.{fulfilled-iff}
 use Rattle.template_core.proofs.KeepsTest.{keeps-is}
 use Rattle.template_core.proofs.Places.{count_places-same}
-use Rattle.template_core.specs.Constraints.{arity, IsWellMade}
+use Rattle.template_core.proofs.Made.{made-in}
+use Rattle.template_core.specs.Constraints.{arity, IsWellMade, IsWellMadeIn}
 use Rattle.template_core.specs.Events.{one_if, count_places, at_head, at_place}
+use Rattle.template_core.specs.Groups.{group_of, activities_of}
 use Rattle.template_core.specs.Places.{EventIs, SomeIs, LaterIs, EarlierIs, PreviousIs, AtEach, AlternatesLater as AlternatesLaterAt, AlternatesEarlier as AlternatesEarlierAt}
 use Rattle.template_core.specs.Repertoire.{each_of, is_activated, is_fulfilled, keeps}
+use Rattle.template_core.specs.declared.group.Group.{Group}
+use Rattle.template_core.specs.declared.group.Group.TheVariants.{Existence}
 use Rattle.template_core.specs.declared.kind.Kind.{Kind}
-use Rattle.template_core.specs.declared.kind.Kind.TheVariants.{Init, End, Participation, AtMostOne, ChainSuccession, AlternateSuccession, Succession, CoExistence, ChainResponse, AlternateResponse, Response, ChainPrecedence, AlternatePrecedence, Precedence, RespondedExistence, NotCoExistence, NotSuccession, NotChainSuccession}
+use Rattle.template_core.specs.declared.kind.Kind.TheVariants.{Init, End, Participation, AtMostOne, ChainSuccession, AlternateSuccession, Succession, CoExistence, ChainResponse, AlternateResponse, Response, ChainPrecedence, AlternatePrecedence, Precedence, RespondedExistence, NotCoExistence, NotSuccession, NotChainSuccession, Exactly, AtLeast, AtMost, NotRespondedExistence, NotResponse, NotPrecedence, NotChainResponse, NotChainPrecedence}
 use Rattle.trace_check.specs.Checking.{first_place}
-use Rattle.trace_check.specs.Demands.{Demanded, IsTest, first_demand, second_demand}
+use Rattle.trace_check.specs.Demands.{Demanded, IsTest, demands_of}
 use Rattle.trace_check.specs.Sides.{IsSide, IsJoined}
 use Rattle.trace_check.specs.Standing.{places_from, IsFirstFailing}
 use Rattle.trace_check.specs.Tallies.{earliest, tally_of}
@@ -204,25 +208,27 @@ each_of-stands a b t i = go (drop i t)
     go (e ∷ s) = refl
 
 activated-by : (kind : Kind) (a b : ℕ) (t : List ℕ) → arity kind ≡ 2 → (i : ℕ)
-    → is_activated nat_eq kind a b t i ≡ ((is_some (first_demand kind) && stands a t i) || (is_some (second_demand kind) && stands b t i))
+    → is_activated nat_eq kind a b t i ≡ ((is_some (demands_of kind).first && stands a t i) || (is_some (demands_of kind).second && stands b t i))
+activated-by ChainResponse a b t two i = sym (or_false (stands a t i))
+activated-by AlternateResponse a b t two i = sym (or_false (stands a t i))
+activated-by Response a b t two i = sym (or_false (stands a t i))
+activated-by RespondedExistence a b t two i = sym (or_false (stands a t i))
+activated-by NotRespondedExistence a b t two i = sym (or_false (stands a t i))
+activated-by NotResponse a b t two i = sym (or_false (stands a t i))
+activated-by NotChainResponse a b t two i = sym (or_false (stands a t i))
+activated-by ChainPrecedence a b t two i = refl
+activated-by AlternatePrecedence a b t two i = refl
+activated-by Precedence a b t two i = refl
+activated-by NotPrecedence a b t two i = refl
+activated-by NotChainPrecedence a b t two i = refl
 activated-by Init a b t two i = absurd (omega (arith, two))
 activated-by End a b t two i = absurd (omega (arith, two))
 activated-by Participation a b t two i = absurd (omega (arith, two))
 activated-by AtMostOne a b t two i = absurd (omega (arith, two))
-activated-by ChainSuccession a b t two i = each_of-stands a b t i
-activated-by AlternateSuccession a b t two i = each_of-stands a b t i
-activated-by Succession a b t two i = each_of-stands a b t i
-activated-by CoExistence a b t two i = each_of-stands a b t i
-activated-by ChainResponse a b t two i = sym (or_false (stands a t i))
-activated-by AlternateResponse a b t two i = sym (or_false (stands a t i))
-activated-by Response a b t two i = sym (or_false (stands a t i))
-activated-by ChainPrecedence a b t two i = refl
-activated-by AlternatePrecedence a b t two i = refl
-activated-by Precedence a b t two i = refl
-activated-by RespondedExistence a b t two i = sym (or_false (stands a t i))
-activated-by NotCoExistence a b t two i = each_of-stands a b t i
-activated-by NotSuccession a b t two i = each_of-stands a b t i
-activated-by NotChainSuccession a b t two i = each_of-stands a b t i
+activated-by (Exactly n) a b t two i = absurd (omega (arith, two))
+activated-by (AtLeast n) a b t two i = absurd (omega (arith, two))
+activated-by (AtMost n) a b t two i = absurd (omega (arith, two))
+activated-by kind a b t two i = each_of-stands a b t i
 
 at_own : (a b : ℕ) (t : List ℕ) (i : ℕ) (P Q : ℕ → Type 0) (v : Bool) → a ≢ b → EventIs a t i → v ≡ true ↔ AtEach a b P Q t i → v ≡ true ↔ P i
 at_own a b t i P Q v differ at h = (λ e. (h.0 e).0 at, λ p. h.1 (λ is. p, λ is. absurd (differ (some_same a b (sym at ∙ is)))))
@@ -230,75 +236,68 @@ at_own a b t i P Q v differ at h = (λ e. (h.0 e).0 at, λ p. h.1 (λ is. p, λ 
 at_other : (a b : ℕ) (t : List ℕ) (i : ℕ) (P Q : ℕ → Type 0) (v : Bool) → a ≢ b → EventIs b t i → v ≡ true ↔ AtEach a b P Q t i → v ≡ true ↔ Q i
 at_other a b t i P Q v differ at h = (λ e. (h.0 e).1 at, λ p. h.1 (λ is. absurd (differ (some_same a b (sym is ∙ at))), λ is. p))
 
-first-tells : (kind : Kind) (a b : ℕ) (t : List ℕ) → IsWellMade kind a b → TellsOf (first_demand kind) a b t (λ i. is_fulfilled nat_eq kind a b t i)
-first-tells Init a b t made = tt
-first-tells End a b t made = tt
-first-tells Participation a b t made = tt
-first-tells AtMostOne a b t made = tt
+first-tells : (kind : Kind) (a b : ℕ) (t : List ℕ) → IsWellMade kind a b → TellsOf (demands_of kind).first a b t (λ i. is_fulfilled nat_eq kind a b t i)
 first-tells ChainSuccession a b t made = λ i at. at_own a b t i (λ i. EventIs b t (i + 1)) (PreviousIs a t) (is_fulfilled nat_eq ChainSuccession a b t i) made at (fulfilled-iff ChainSuccession a b t i made (inl at))
 first-tells AlternateSuccession a b t made = λ i at. at_own a b t i (AlternatesLaterAt a b t) (AlternatesEarlierAt a b t) (is_fulfilled nat_eq AlternateSuccession a b t i) made at (fulfilled-iff AlternateSuccession a b t i made (inl at))
 first-tells Succession a b t made = λ i at. at_own a b t i (LaterIs b t) (EarlierIs a t) (is_fulfilled nat_eq Succession a b t i) made at (fulfilled-iff Succession a b t i made (inl at))
 first-tells CoExistence a b t made = λ i at. at_own a b t i (λ i. SomeIs b t) (λ i. SomeIs a t) (is_fulfilled nat_eq CoExistence a b t i) made at (fulfilled-iff CoExistence a b t i made (inl at))
-first-tells ChainResponse a b t made = λ i at. fulfilled-iff ChainResponse a b t i made at
-first-tells AlternateResponse a b t made = λ i at. fulfilled-iff AlternateResponse a b t i made at
-first-tells Response a b t made = λ i at. fulfilled-iff Response a b t i made at
-first-tells ChainPrecedence a b t made = tt
-first-tells AlternatePrecedence a b t made = tt
-first-tells Precedence a b t made = tt
-first-tells RespondedExistence a b t made = λ i at. fulfilled-iff RespondedExistence a b t i made at
 first-tells NotCoExistence a b t made = λ i at. at_own a b t i (λ i. ¬ SomeIs b t) (λ i. ¬ SomeIs a t) (is_fulfilled nat_eq NotCoExistence a b t i) made at (fulfilled-iff NotCoExistence a b t i made (inl at))
 first-tells NotSuccession a b t made = λ i at. at_own a b t i (λ i. ¬ LaterIs b t i) (λ i. ¬ EarlierIs a t i) (is_fulfilled nat_eq NotSuccession a b t i) made at (fulfilled-iff NotSuccession a b t i made (inl at))
 first-tells NotChainSuccession a b t made = λ i at. at_own a b t i (λ i. ¬ EventIs b t (i + 1)) (λ i. ¬ PreviousIs a t i) (is_fulfilled nat_eq NotChainSuccession a b t i) made at (fulfilled-iff NotChainSuccession a b t i made (inl at))
+first-tells Init a b t made = tt
+first-tells End a b t made = tt
+first-tells Participation a b t made = tt
+first-tells AtMostOne a b t made = tt
+first-tells (Exactly n) a b t made = tt
+first-tells (AtLeast n) a b t made = tt
+first-tells (AtMost n) a b t made = tt
+first-tells ChainPrecedence a b t made = tt
+first-tells AlternatePrecedence a b t made = tt
+first-tells Precedence a b t made = tt
+first-tells NotPrecedence a b t made = tt
+first-tells NotChainPrecedence a b t made = tt
+first-tells kind a b t made = λ i at. fulfilled-iff kind a b t i made at
 
-second-tells : (kind : Kind) (a b : ℕ) (t : List ℕ) → IsWellMade kind a b → TellsOf (second_demand kind) b a t (λ i. is_fulfilled nat_eq kind a b t i)
-second-tells Init a b t made = tt
-second-tells End a b t made = tt
-second-tells Participation a b t made = tt
-second-tells AtMostOne a b t made = tt
+second-tells : (kind : Kind) (a b : ℕ) (t : List ℕ) → IsWellMade kind a b → TellsOf (demands_of kind).second b a t (λ i. is_fulfilled nat_eq kind a b t i)
 second-tells ChainSuccession a b t made = λ i at. at_other a b t i (λ i. EventIs b t (i + 1)) (PreviousIs a t) (is_fulfilled nat_eq ChainSuccession a b t i) made at (fulfilled-iff ChainSuccession a b t i made (inr at))
 second-tells AlternateSuccession a b t made = λ i at. at_other a b t i (AlternatesLaterAt a b t) (AlternatesEarlierAt a b t) (is_fulfilled nat_eq AlternateSuccession a b t i) made at (fulfilled-iff AlternateSuccession a b t i made (inr at))
 second-tells Succession a b t made = λ i at. at_other a b t i (LaterIs b t) (EarlierIs a t) (is_fulfilled nat_eq Succession a b t i) made at (fulfilled-iff Succession a b t i made (inr at))
 second-tells CoExistence a b t made = λ i at. at_other a b t i (λ i. SomeIs b t) (λ i. SomeIs a t) (is_fulfilled nat_eq CoExistence a b t i) made at (fulfilled-iff CoExistence a b t i made (inr at))
-second-tells ChainResponse a b t made = tt
-second-tells AlternateResponse a b t made = tt
-second-tells Response a b t made = tt
-second-tells ChainPrecedence a b t made = λ i at. fulfilled-iff ChainPrecedence a b t i made at
-second-tells AlternatePrecedence a b t made = λ i at. fulfilled-iff AlternatePrecedence a b t i made at
-second-tells Precedence a b t made = λ i at. fulfilled-iff Precedence a b t i made at
-second-tells RespondedExistence a b t made = tt
 second-tells NotCoExistence a b t made = λ i at. at_other a b t i (λ i. ¬ SomeIs b t) (λ i. ¬ SomeIs a t) (is_fulfilled nat_eq NotCoExistence a b t i) made at (fulfilled-iff NotCoExistence a b t i made (inr at))
 second-tells NotSuccession a b t made = λ i at. at_other a b t i (λ i. ¬ LaterIs b t i) (λ i. ¬ EarlierIs a t i) (is_fulfilled nat_eq NotSuccession a b t i) made at (fulfilled-iff NotSuccession a b t i made (inr at))
 second-tells NotChainSuccession a b t made = λ i at. at_other a b t i (λ i. ¬ EventIs b t (i + 1)) (λ i. ¬ PreviousIs a t i) (is_fulfilled nat_eq NotChainSuccession a b t i) made at (fulfilled-iff NotChainSuccession a b t i made (inr at))
+second-tells Init a b t made = tt
+second-tells End a b t made = tt
+second-tells Participation a b t made = tt
+second-tells AtMostOne a b t made = tt
+second-tells (Exactly n) a b t made = tt
+second-tells (AtLeast n) a b t made = tt
+second-tells (AtMost n) a b t made = tt
+second-tells ChainResponse a b t made = tt
+second-tells AlternateResponse a b t made = tt
+second-tells Response a b t made = tt
+second-tells RespondedExistence a b t made = tt
+second-tells NotRespondedExistence a b t made = tt
+second-tells NotResponse a b t made = tt
+second-tells NotChainResponse a b t made = tt
+second-tells kind a b t made = λ i at. fulfilled-iff kind a b t i made at
 
 -- two activities differ
 pub two-differ : (kind : Kind) (a b : ℕ) → arity kind ≡ 2 → IsWellMade kind a b → a ≢ b
-two-differ Init a b two made = absurd (omega (arith, two))
-two-differ End a b two made = absurd (omega (arith, two))
-two-differ Participation a b two made = absurd (omega (arith, two))
-two-differ AtMostOne a b two made = absurd (omega (arith, two))
-two-differ ChainSuccession a b two made = made
-two-differ AlternateSuccession a b two made = made
-two-differ Succession a b two made = made
-two-differ CoExistence a b two made = made
-two-differ ChainResponse a b two made = made
-two-differ AlternateResponse a b two made = made
-two-differ Response a b two made = made
-two-differ ChainPrecedence a b two made = made
-two-differ AlternatePrecedence a b two made = made
-two-differ Precedence a b two made = made
-two-differ RespondedExistence a b two made = made
-two-differ NotCoExistence a b two made = made
-two-differ NotSuccession a b two made = made
-two-differ NotChainSuccession a b two made = made
+two-differ kind a b two made = differ (group_of kind) two (made-in kind a b made)
+  where
+    differ : (group : Group) → activities_of group ≡ 2 → IsWellMadeIn group a b → a ≢ b
+    differ Existence two made = absurd (omega (arith, two))
+    differ group two made = made
 
 pub joined-tally : (kind : Kind) (a b n : ℕ) (t firsts seconds : List ℕ) (tally : Tally) → arity kind ≡ 2 → IsWellMade kind a b → firsts ≡ places_from a n t → seconds ≡ places_from b n t
     → IsJoined kind firsts seconds tally → tally ≡ tally_of kind a b n t
 joined-tally kind a b n t firsts seconds tally two made firsts_are seconds_are is =
     let differ = two-differ kind a b two made in
     let ful : ℕ → Bool = λ i. is_fulfilled nat_eq kind a b t i in
-    joined kind a b n t (is_some (first_demand kind)) (is_some (second_demand kind)) differ (activated-by kind a b t two) is.first is.second
-    (side-means (first_demand kind) a b n t firsts seconds ful is.first differ firsts_are seconds_are is.first_is (first-tells kind a b t made))
-    (side-means (second_demand kind) b a n t seconds firsts ful is.second (λ e. differ (sym e)) seconds_are firsts_are is.second_is (second-tells kind a b t made))
+    joined kind a b n t (is_some (demands_of kind).first) (is_some (demands_of kind).second) differ (activated-by kind a b t two) is.first is.second
+    (side-means (demands_of kind).first a b n t firsts seconds ful is.first differ firsts_are seconds_are is.first_is (first-tells kind a b t made))
+    (side-means (demands_of kind).second b a n t seconds firsts ful is.second (λ e. differ (sym e)) seconds_are firsts_are is.second_is (second-tells kind a b t made))
     tally is.tally_is
 
 -- no place holds both

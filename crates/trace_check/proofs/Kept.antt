@@ -1,5 +1,5 @@
 -- A constraint is kept by all traces exactly where no trace breaks it, and then all its activated places are fulfilled.
-use Rattle.std.proofs.Common.{◌≡◌, ◌↔◌, ℕ, zero, suc, ◌+◌, ◌<◌, ◌≤◌, List, [], ◌∷◌, Bool, true, false, ◌&&◌, ◌||◌, not, cond, get_or, length, sum_by, count_by, Option, None, Some, All, map, refl, sym, ap, ◌∙◌, arith, ⊎_elim}
+use Rattle.std.proofs.Common.{◌≡◌, ◌↔◌, ℕ, zero, suc, ◌+◌, ◌≤◌, List, [], ◌∷◌, Bool, true, false, ◌&&◌, ◌||◌, not, cond, get_or, length, sum_by, count_by, Option, None, Some, All, refl, sym, ap, ◌∙◌, arith, ⊎_elim}
 use Rattle.std.proofs.lemmas.Bool.{true≢false, cases_lt, and_parts}
 use Rattle.std.proofs.lemmas.List.Elements.{All-cons}
 use Rattle.std.proofs.lemmas.List.Sums.{sum_by-cons, count_by-le-length}
@@ -8,7 +8,7 @@ use Rattle.std.specs.Option.{option_map}
 use Rattle.std.specs.Str.{bytes_eq}
 use Rattle.template_core.proofs.Traces.{count_by-cons}
 use Rattle.template_core.specs.Events.{one_if, count_places, all_places}
-use Rattle.template_core.specs.Repertoire.{is_activated, is_fulfilled, keeps, activated, fulfilled}
+use Rattle.template_core.specs.Repertoire.{is_activated, is_fulfilled, keeps}
 use Rattle.template_core.specs.declared.constraint.Constraint.{Constraint}
 use Rattle.template_core.specs.declared.kind.Kind.{Kind}
 use Rattle.trace_check.specs.Checking.{row, checked, name_at, first_place}

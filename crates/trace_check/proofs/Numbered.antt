@@ -7,9 +7,8 @@ use Rattle.std.proofs.lemmas.Bool.{true≢false, eq-eqb, ne_eqb}
 use Rattle.std.proofs.lemmas.List.{get_or-map}
 use Rattle.std.proofs.lemmas.List.Elements.{All-head, All-tail}
 use Rattle.std.proofs.lemmas.List.Sums.{passes_at_first}
-use Rattle.event_log.proofs.Appearing.{StandOnce}
 use Rattle.event_log.proofs.Numbering.{maps-agree}
-use Rattle.event_log.specs.Logs.{events_of, named, place_of}
+use Rattle.event_log.specs.Logs.{events_of, named, place_of, StandOnce}
 use Rattle.template_core.specs.Constraints.{IsWellMadeFor}
 use Rattle.template_core.specs.declared.constraint.Constraint.{Constraint}
 use Rattle.trace_check.specs.Checking.{checked, name_at, numbered_row}

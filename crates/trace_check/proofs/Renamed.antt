@@ -1,5 +1,5 @@
 -- How the traces of a log keep a constraint doesn't depend on what its activities are called.
-use Rattle.std.proofs.Common.{◌≡◌, ℕ, zero, suc, ◌+◌, List, [], ◌∷◌, Bool, true, false, ◌&&◌, ◌||◌, not, cond, nat_eq, nat_lt, ltb, get_or, length, map, take, drop, filter, sum_by, Option, None, Some, refl, sym, ap, ap₂, ◌∙◌, arith}
+use Rattle.std.proofs.Common.{◌≡◌, ℕ, zero, suc, ◌+◌, List, [], ◌∷◌, Bool, true, false, ◌&&◌, ◌||◌, not, cond, nat_eq, nat_le, nat_lt, ltb, get_or, length, map, take, drop, filter, sum_by, Option, None, Some, refl, sym, ap, ap₂, ◌∙◌, arith}
 use Rattle.std.proofs.lemmas.List.{length-map, take-map, drop-map}
 use Rattle.std.proofs.lemmas.List.Sums.{sum_by-cons}
 use Rattle.std.specs.List.{position, position_or_len, range_with_len}
@@ -14,7 +14,7 @@ use Rattle.template_core.specs.declared.group.Activation.TheVariants as by
 use Rattle.template_core.specs.declared.group.Group.{Group}
 use Rattle.template_core.specs.declared.group.Group.TheVariants.{Existence, Relation, Mutual, Negative}
 use Rattle.template_core.specs.declared.kind.Kind.{Kind}
-use Rattle.template_core.specs.declared.kind.Kind.TheVariants.{Init, End, Participation, AtMostOne, ChainSuccession, AlternateSuccession, Succession, CoExistence, ChainResponse, AlternateResponse, Response, ChainPrecedence, AlternatePrecedence, Precedence, RespondedExistence, NotCoExistence, NotSuccession, NotChainSuccession}
+use Rattle.template_core.specs.declared.kind.Kind.TheVariants.{Init, End, Participation, AtMostOne, ChainSuccession, AlternateSuccession, Succession, CoExistence, ChainResponse, AlternateResponse, Response, ChainPrecedence, AlternatePrecedence, Precedence, RespondedExistence, NotCoExistence, NotSuccession, NotChainSuccession, Exactly, AtLeast, AtMost, NotRespondedExistence, NotResponse, NotPrecedence, NotChainResponse, NotChainPrecedence}
 use Rattle.trace_check.specs.Checking.{first_place, first_broken, row}
 use Rattle.trace_check.specs.declared.checked.Broken.{Broken}
 use Rattle.trace_check.specs.declared.checked.Checked.{Checked}
@@ -174,6 +174,14 @@ module _ {A B : Type 0} (same : A → A → Bool) (other : B → B → Bool) (h 
         first-at (none other (has_later other y)) (none other (has_earlier other x)) (none same (has_later same b)) (none same (has_earlier same a)) (none-map (has_later other y) (has_later same b) (later-map b y at_b)) (none-map (has_earlier other x) (has_earlier same a) (earlier-map a x at_a)) t k
     fulfilled-map NotChainSuccession t k =
         first-at (none other (has_next other y)) (none other (has_previous other x)) (none same (has_next same b)) (none same (has_previous same a)) (none-map (has_next other y) (has_next same b) (next-map b y at_b)) (none-map (has_previous other x) (has_previous same a) (previous-map a x at_a)) t k
+    fulfilled-map (Exactly n) t k = ap (λ m. nat_eq m n) (occurrences-map a x at_a t)
+    fulfilled-map (AtLeast n) t k = ap (nat_le n) (occurrences-map a x at_a t)
+    fulfilled-map (AtMost n) t k = ap (λ m. nat_le m n) (occurrences-map a x at_a t)
+    fulfilled-map NotRespondedExistence t k = at_place-map (none other (has other y)) (none same (has same b)) (none-map (has other y) (has same b) (has-map b y at_b)) t k
+    fulfilled-map NotResponse t k = at_place-map (none other (has_later other y)) (none same (has_later same b)) (none-map (has_later other y) (has_later same b) (later-map b y at_b)) t k
+    fulfilled-map NotPrecedence t k = at_place-map (none other (has_earlier other x)) (none same (has_earlier same a)) (none-map (has_earlier other x) (has_earlier same a) (earlier-map a x at_a)) t k
+    fulfilled-map NotChainResponse t k = at_place-map (none other (has_next other y)) (none same (has_next same b)) (none-map (has_next other y) (has_next same b) (next-map b y at_b)) t k
+    fulfilled-map NotChainPrecedence t k = at_place-map (none other (has_previous other x)) (none same (has_previous same a)) (none-map (has_previous other x) (has_previous same a) (previous-map a x at_a)) t k
 
     module _ (kind : Kind) where
       active-map : (t : List A) (k : ℕ) → is_activated other kind x y (map h t) k ≡ is_activated same kind a b t k

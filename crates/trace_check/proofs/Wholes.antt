@@ -12,7 +12,7 @@ use Rattle.template_core.specs.Events.{one_if, count_places, is_first, is_last, 
 use Rattle.template_core.specs.Places.{EventIs, SomeIs}
 use Rattle.template_core.specs.Repertoire.{is_activated, is_fulfilled, keeps}
 use Rattle.template_core.specs.declared.kind.Kind.{Kind}
-use Rattle.template_core.specs.declared.kind.Kind.TheVariants.{Init, End, Participation, AtMostOne, ChainSuccession, AlternateSuccession, Succession, CoExistence, ChainResponse, AlternateResponse, Response, ChainPrecedence, AlternatePrecedence, Precedence, RespondedExistence, NotCoExistence, NotSuccession, NotChainSuccession}
+use Rattle.template_core.specs.declared.kind.Kind.TheVariants.{Init, End, Participation, AtMostOne, Exactly, AtLeast, AtMost}
 use Rattle.trace_check.specs.Checking.{first_place}
 use Rattle.trace_check.specs.Standing.{places_from}
 use Rattle.trace_check.specs.Tallies.{tally_of}
@@ -116,17 +116,7 @@ whole-tally Init a b start t one = whole Init a b start t (is_fulfilled nat_eq I
 whole-tally End a b start t one = whole End a b start t (is_fulfilled nat_eq End a b t (length t)) (λ i. refl) (λ i. refl)
 whole-tally Participation a b start t one = whole Participation a b start t (is_fulfilled nat_eq Participation a b t (length t)) (λ i. refl) (λ i. refl)
 whole-tally AtMostOne a b start t one = whole AtMostOne a b start t (is_fulfilled nat_eq AtMostOne a b t (length t)) (λ i. refl) (λ i. refl)
-whole-tally ChainSuccession a b start t one = absurd (omega (arith, one))
-whole-tally AlternateSuccession a b start t one = absurd (omega (arith, one))
-whole-tally Succession a b start t one = absurd (omega (arith, one))
-whole-tally CoExistence a b start t one = absurd (omega (arith, one))
-whole-tally ChainResponse a b start t one = absurd (omega (arith, one))
-whole-tally AlternateResponse a b start t one = absurd (omega (arith, one))
-whole-tally Response a b start t one = absurd (omega (arith, one))
-whole-tally ChainPrecedence a b start t one = absurd (omega (arith, one))
-whole-tally AlternatePrecedence a b start t one = absurd (omega (arith, one))
-whole-tally Precedence a b start t one = absurd (omega (arith, one))
-whole-tally RespondedExistence a b start t one = absurd (omega (arith, one))
-whole-tally NotCoExistence a b start t one = absurd (omega (arith, one))
-whole-tally NotSuccession a b start t one = absurd (omega (arith, one))
-whole-tally NotChainSuccession a b start t one = absurd (omega (arith, one))
+whole-tally (Exactly n) a b start t one = whole (Exactly n) a b start t (is_fulfilled nat_eq (Exactly n) a b t (length t)) (λ i. refl) (λ i. refl)
+whole-tally (AtLeast n) a b start t one = whole (AtLeast n) a b start t (is_fulfilled nat_eq (AtLeast n) a b t (length t)) (λ i. refl) (λ i. refl)
+whole-tally (AtMost n) a b start t one = whole (AtMost n) a b start t (is_fulfilled nat_eq (AtMost n) a b t (length t)) (λ i. refl) (λ i. refl)
+whole-tally kind a b start t one = absurd (omega (arith, one))

@@ -2,52 +2,43 @@
 use Rattle.std.specs.Prelude.{◌≡◌, ◌≢◌, ◌↔◌, ℕ, ◌+◌, List, Bool, true, Option, None, Some}
 use Rattle.template_core.specs.Places.{EventIs, PreviousIs, SomeIs, LaterIs, EarlierIs, AlternatesLater as AlternatesLaterAt, AlternatesEarlier as AlternatesEarlierAt}
 use Rattle.template_core.specs.declared.kind.Kind.{Kind}
-use Rattle.template_core.specs.declared.kind.Kind.TheVariants.{Init, End, Participation, AtMostOne, ChainSuccession, AlternateSuccession, Succession, CoExistence, ChainResponse, AlternateResponse, Response, ChainPrecedence, AlternatePrecedence, Precedence, RespondedExistence, NotCoExistence, NotSuccession, NotChainSuccession}
+use Rattle.template_core.specs.declared.kind.Kind.TheVariants.{Init, End, Participation, AtMostOne, ChainSuccession, AlternateSuccession, Succession, CoExistence, ChainResponse, AlternateResponse, Response, ChainPrecedence, AlternatePrecedence, Precedence, RespondedExistence, NotCoExistence, NotSuccession, NotChainSuccession, Exactly, AtLeast, AtMost, NotRespondedExistence, NotResponse, NotPrecedence, NotChainResponse, NotChainPrecedence}
 use Rattle.trace_check.specs.Standing.{places_from}
 use Rattle.trace_check.specs.declared.demand.Demand.{Demand}
+use Rattle.trace_check.specs.declared.demand.Demands.{Demands}
 use Rattle.trace_check.specs.declared.demand.Demand.TheVariants.{Present, Later, Earlier, Next, Previous, AlternatesLater, AlternatesEarlier, Absent, NoneLater, NoneEarlier, NotNext, NotPrevious}
 
--- what an event of the first activity asks for, where it activates a constraint of the kind
-abbrev pub first_demand : Kind → Option Demand
-first_demand Init = None
-first_demand End = None
-first_demand Participation = None
-first_demand AtMostOne = None
-first_demand ChainSuccession = Some Next
-first_demand AlternateSuccession = Some AlternatesLater
-first_demand Succession = Some Later
-first_demand CoExistence = Some Present
-first_demand ChainResponse = Some Next
-first_demand AlternateResponse = Some AlternatesLater
-first_demand Response = Some Later
-first_demand ChainPrecedence = None
-first_demand AlternatePrecedence = None
-first_demand Precedence = None
-first_demand RespondedExistence = Some Present
-first_demand NotCoExistence = Some Absent
-first_demand NotSuccession = Some NoneLater
-first_demand NotChainSuccession = Some NotNext
+abbrev pub asks : Option Demand → Option Demand → Demands
+asks first second = record { first = first; second = second }
 
--- what an event of the second activity asks for
-abbrev pub second_demand : Kind → Option Demand
-second_demand Init = None
-second_demand End = None
-second_demand Participation = None
-second_demand AtMostOne = None
-second_demand ChainSuccession = Some Previous
-second_demand AlternateSuccession = Some AlternatesEarlier
-second_demand Succession = Some Earlier
-second_demand CoExistence = Some Present
-second_demand ChainResponse = None
-second_demand AlternateResponse = None
-second_demand Response = None
-second_demand ChainPrecedence = Some Previous
-second_demand AlternatePrecedence = Some AlternatesEarlier
-second_demand Precedence = Some Earlier
-second_demand RespondedExistence = None
-second_demand NotCoExistence = Some Absent
-second_demand NotSuccession = Some NoneEarlier
-second_demand NotChainSuccession = Some NotPrevious
+-- what an event of the first activity asks for, where it activates a constraint of the kind, and what one of the second does
+abbrev pub demands_of : Kind → Demands
+demands_of Init = asks None None
+demands_of End = asks None None
+demands_of Participation = asks None None
+demands_of AtMostOne = asks None None
+demands_of ChainSuccession = asks (Some Next) (Some Previous)
+demands_of AlternateSuccession = asks (Some AlternatesLater) (Some AlternatesEarlier)
+demands_of Succession = asks (Some Later) (Some Earlier)
+demands_of CoExistence = asks (Some Present) (Some Present)
+demands_of ChainResponse = asks (Some Next) None
+demands_of AlternateResponse = asks (Some AlternatesLater) None
+demands_of Response = asks (Some Later) None
+demands_of ChainPrecedence = asks None (Some Previous)
+demands_of AlternatePrecedence = asks None (Some AlternatesEarlier)
+demands_of Precedence = asks None (Some Earlier)
+demands_of RespondedExistence = asks (Some Present) None
+demands_of NotCoExistence = asks (Some Absent) (Some Absent)
+demands_of NotSuccession = asks (Some NoneLater) (Some NoneEarlier)
+demands_of NotChainSuccession = asks (Some NotNext) (Some NotPrevious)
+demands_of (Exactly n) = asks None None
+demands_of (AtLeast n) = asks None None
+demands_of (AtMost n) = asks None None
+demands_of NotRespondedExistence = asks (Some Absent) None
+demands_of NotResponse = asks (Some NoneLater) None
+demands_of NotPrecedence = asks None (Some NoneEarlier)
+demands_of NotChainResponse = asks (Some NotNext) None
+demands_of NotChainPrecedence = asks None (Some NotPrevious)
 
 -- what the event at place i of a trace, an a, asks of the b's
 abbrev pub Demanded : Demand → ℕ → ℕ → List ℕ → ℕ → Type 0

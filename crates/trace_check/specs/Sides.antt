@@ -1,7 +1,7 @@
 -- What the events of one activity say of a trace.
 use Rattle.std.specs.Prelude.{◌≡◌, ℕ, ◌+◌, List, Bool, Option, None, Some, length, count_by}
 use Rattle.template_core.specs.declared.kind.Kind.{Kind}
-use Rattle.trace_check.specs.Demands.{first_demand, second_demand, IsTest}
+use Rattle.trace_check.specs.Demands.{demands_of, IsTest}
 use Rattle.trace_check.specs.Standing.{IsFirstFailing}
 use Rattle.trace_check.specs.declared.demand.Demand.{Demand}
 use Rattle.trace_check.specs.Tallies.{earliest}
@@ -23,8 +23,8 @@ IsSide (Some demand) own other side = IsSideOf demand own other side
 pub record IsJoined (kind : Kind) (firsts seconds : List ℕ) (tally : Tally) : Type 0 where
   pub first : Side
   pub second : Side
-  pub first_is : IsSide (first_demand kind) firsts seconds first
-  pub second_is : IsSide (second_demand kind) seconds firsts second
+  pub first_is : IsSide (demands_of kind).first firsts seconds first
+  pub second_is : IsSide (demands_of kind).second seconds firsts second
   pub tally_is : tally ≡ record {
     activated = first.activated + second.activated;
     fulfilled = first.fulfilled + second.fulfilled;

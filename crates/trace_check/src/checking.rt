@@ -12,7 +12,7 @@ use std::alloc::Global;
 use template_core::Constraint;
 
 /// How the traces of a log keep each constraint of a list. Activities are matched by name, so a name that the log hasn't is no event of it.
-/// Only want of memory refuses it.
+/// Refused only where memory is out.
 pub fn check(
     alloc: Global,
     names: &Alphabet,

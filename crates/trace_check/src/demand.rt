@@ -1,5 +1,5 @@
 ghost use Rattle.std.specs.Prelude.{◌≡◌};
-ghost use Rattle.trace_check.specs.Demands.{first_demand, second_demand};
+ghost use Rattle.trace_check.specs.Demands.{demands_of};
 
 use template_core::Kind;
 
@@ -32,37 +32,47 @@ pub enum Demand {
     NotPrevious,
 }
 
-/// What an event of the first activity asks for, where it activates a constraint of the template.
-pub fn first_demand(kind: Kind) -> Option<Demand>
-    ensures { result ≡ first_demand kind }
+/// What an event of each activity asks for. None where it doesn't activate the constraint.
+#[derive(Clone, Copy, Debug)]
+pub struct Demands {
+    pub first: Option<Demand>,
+    pub second: Option<Demand>,
+}
+
+/// What the events of its two activities ask for, where they activate a constraint of the template.
+pub fn demands_of(kind: Kind) -> Demands
+    ensures { result ≡ demands_of kind }
 {
     match kind {
-        Kind::Init | Kind::End | Kind::Participation | Kind::AtMostOne => None,
-        Kind::ChainPrecedence | Kind::AlternatePrecedence | Kind::Precedence => None,
-        Kind::ChainSuccession | Kind::ChainResponse => Some(Demand::Next),
-        Kind::AlternateSuccession | Kind::AlternateResponse => Some(Demand::AlternatesLater),
-        Kind::Succession | Kind::Response => Some(Demand::Later),
-        Kind::CoExistence | Kind::RespondedExistence => Some(Demand::Present),
-        Kind::NotCoExistence => Some(Demand::Absent),
-        Kind::NotSuccession => Some(Demand::NoneLater),
-        Kind::NotChainSuccession => Some(Demand::NotNext),
+        Kind::Init | Kind::End | Kind::Participation | Kind::AtMostOne => asks(None, None),
+        Kind::Exactly { .. } | Kind::AtLeast { .. } | Kind::AtMost { .. } => asks(None, None),
+        Kind::ChainSuccession => asks(Some(Demand::Next), Some(Demand::Previous)),
+        Kind::AlternateSuccession => asks(
+            Some(Demand::AlternatesLater),
+            Some(Demand::AlternatesEarlier),
+        ),
+        Kind::Succession => asks(Some(Demand::Later), Some(Demand::Earlier)),
+        Kind::CoExistence => asks(Some(Demand::Present), Some(Demand::Present)),
+        Kind::ChainResponse => asks(Some(Demand::Next), None),
+        Kind::AlternateResponse => asks(Some(Demand::AlternatesLater), None),
+        Kind::Response => asks(Some(Demand::Later), None),
+        Kind::ChainPrecedence => asks(None, Some(Demand::Previous)),
+        Kind::AlternatePrecedence => asks(None, Some(Demand::AlternatesEarlier)),
+        Kind::Precedence => asks(None, Some(Demand::Earlier)),
+        Kind::RespondedExistence => asks(Some(Demand::Present), None),
+        Kind::NotCoExistence => asks(Some(Demand::Absent), Some(Demand::Absent)),
+        Kind::NotSuccession => asks(Some(Demand::NoneLater), Some(Demand::NoneEarlier)),
+        Kind::NotChainSuccession => asks(Some(Demand::NotNext), Some(Demand::NotPrevious)),
+        Kind::NotRespondedExistence => asks(Some(Demand::Absent), None),
+        Kind::NotResponse => asks(Some(Demand::NoneLater), None),
+        Kind::NotPrecedence => asks(None, Some(Demand::NoneEarlier)),
+        Kind::NotChainResponse => asks(Some(Demand::NotNext), None),
+        Kind::NotChainPrecedence => asks(None, Some(Demand::NotPrevious)),
     }
 }
 
-/// What an event of the second activity asks for, where it activates a constraint of the template.
-pub fn second_demand(kind: Kind) -> Option<Demand>
-    ensures { result ≡ second_demand kind }
+fn asks(first: Option<Demand>, second: Option<Demand>) -> Demands
+    ensures { result ≡ record { first = first; second = second } }
 {
-    match kind {
-        Kind::Init | Kind::End | Kind::Participation | Kind::AtMostOne => None,
-        Kind::ChainResponse | Kind::AlternateResponse | Kind::Response | Kind::RespondedExistence =>
-            None,
-        Kind::ChainSuccession | Kind::ChainPrecedence => Some(Demand::Previous),
-        Kind::AlternateSuccession | Kind::AlternatePrecedence => Some(Demand::AlternatesEarlier),
-        Kind::Succession | Kind::Precedence => Some(Demand::Earlier),
-        Kind::CoExistence => Some(Demand::Present),
-        Kind::NotCoExistence => Some(Demand::Absent),
-        Kind::NotSuccession => Some(Demand::NoneEarlier),
-        Kind::NotChainSuccession => Some(Demand::NotPrevious),
-    }
+    Demands { first, second }
 }

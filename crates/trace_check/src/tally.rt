@@ -7,7 +7,7 @@ ghost use Rattle.trace_check.specs.Sides.{IsJoined};
 ghost use Rattle.trace_check.specs.Standing.{places_from};
 ghost use Rattle.trace_check.specs.Tallies.{earliest, tally_of};
 
-use crate::demand::{first_demand, second_demand};
+use crate::demand::demands_of;
 use crate::side::side_by;
 use template_core::{Constraint, Kind};
 
@@ -54,6 +54,9 @@ fn whole_fulfils(constraint: &Constraint, trace: &[u32], start: u64, firsts: &[u
         Kind::End => Some(ends_at(firsts, start + trace.len() as u64)),
         Kind::Participation => Some(!firsts.is_empty()),
         Kind::AtMostOne => Some(firsts.len() < 2),
+        Kind::Exactly { n } => Some(firsts.len() == n as usize),
+        Kind::AtLeast { n } => Some(n as usize <= firsts.len()),
+        Kind::AtMost { n } => Some(firsts.len() <= n as usize),
         Kind::ChainSuccession
         | Kind::AlternateSuccession
         | Kind::Succession
@@ -67,7 +70,12 @@ fn whole_fulfils(constraint: &Constraint, trace: &[u32], start: u64, firsts: &[u
         | Kind::RespondedExistence
         | Kind::NotCoExistence
         | Kind::NotSuccession
-        | Kind::NotChainSuccession => None,
+        | Kind::NotChainSuccession
+        | Kind::NotRespondedExistence
+        | Kind::NotResponse
+        | Kind::NotPrecedence
+        | Kind::NotChainResponse
+        | Kind::NotChainPrecedence => None,
     }
 }
 
@@ -104,8 +112,9 @@ fn of_events(kind: Kind, firsts: &[u64], seconds: &[u64]) -> Tally
     requires apart { (i j : ℕ) → i < length firsts.now → j < length seconds.now → slice_index firsts.now i ≢ slice_index seconds.now j }
     ensures { IsJoined kind firsts.now seconds.now result }
 {
-    let first = side_by(first_demand(kind), firsts, seconds);
-    let second = side_by(second_demand(kind), seconds, firsts);
+    let demands = demands_of(kind);
+    let first = side_by(demands.first, firsts, seconds);
+    let second = side_by(demands.second, seconds, firsts);
     Tally {
         activated: first.activated + second.activated,
         fulfilled: first.fulfilled + second.fulfilled,

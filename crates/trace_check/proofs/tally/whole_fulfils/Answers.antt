@@ -1,4 +1,4 @@
-use Rattle.std.proofs.Common.{◌∙◌, sym, ap, not, eqb, nat_lt, nat_eq, length}
+use Rattle.std.proofs.Common.{◌∙◌, sym, ap, not, eqb, nat_le, nat_lt, nat_eq, length}
 use Rattle.template_core.specs.Constraints.{arity}
 use Rattle.template_core.specs.Repertoire.{is_fulfilled}
 use Rattle.template_core.specs.declared.kind.Kind.{Kind}
@@ -37,4 +37,25 @@ returns-in-AtMostOne c = (
   ap arity c.in-AtMostOne.is,
   ap (λ n. nat_lt n 2) (sym (occurrences-places c.args.constraint.now.first c.args.start c.args.trace.now c.args.firsts.now c.requires.firsts))
       ∙ ap (λ (k : Kind). is_fulfilled nat_eq k c.args.constraint.now.first c.args.constraint.now.second c.args.trace.now (length c.args.trace.now)) (sym c.in-AtMostOne.is),
+)
+
+pub returns-in-Exactly : goal.returns-in-Exactly
+returns-in-Exactly c = (
+  ap arity c.in-Exactly.is,
+  ap (λ m. nat_eq m c.in-Exactly.n) (sym (occurrences-places c.args.constraint.now.first c.args.start c.args.trace.now c.args.firsts.now c.requires.firsts))
+      ∙ ap (λ (k : Kind). is_fulfilled nat_eq k c.args.constraint.now.first c.args.constraint.now.second c.args.trace.now (length c.args.trace.now)) (sym c.in-Exactly.is),
+)
+
+pub returns-in-AtLeast : goal.returns-in-AtLeast
+returns-in-AtLeast c = (
+  ap arity c.in-AtLeast.is,
+  ap (nat_le c.in-AtLeast.n) (sym (occurrences-places c.args.constraint.now.first c.args.start c.args.trace.now c.args.firsts.now c.requires.firsts))
+      ∙ ap (λ (k : Kind). is_fulfilled nat_eq k c.args.constraint.now.first c.args.constraint.now.second c.args.trace.now (length c.args.trace.now)) (sym c.in-AtLeast.is),
+)
+
+pub returns-in-AtMost : goal.returns-in-AtMost
+returns-in-AtMost c = (
+  ap arity c.in-AtMost.is,
+  ap (λ m. nat_le m c.in-AtMost.n) (sym (occurrences-places c.args.constraint.now.first c.args.start c.args.trace.now c.args.firsts.now c.requires.firsts))
+      ∙ ap (λ (k : Kind). is_fulfilled nat_eq k c.args.constraint.now.first c.args.constraint.now.second c.args.trace.now (length c.args.trace.now)) (sym c.in-AtMost.is),
 )

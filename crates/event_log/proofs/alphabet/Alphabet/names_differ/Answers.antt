@@ -1,6 +1,7 @@
 use Rattle.std.proofs.Common.{subst}
 use Rattle.event_log.specs.Alphabet.{Names}
-use Rattle.event_log.proofs.Appearing.{StandOnce, distinct-once}
+use Rattle.event_log.specs.Logs.{StandOnce}
+use Rattle.event_log.proofs.Appearing.{distinct-once}
 use Rattle.event_log.proofs.alphabet.Alphabet.names_differ.Goals as goal
 
 pub returns : goal.returns

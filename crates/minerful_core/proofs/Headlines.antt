@@ -1,6 +1,6 @@
 -- The headline follows from what the outcome is.
 use Rattle.std.proofs.Common.{◌≡◌, ℕ, List, Bool, true, false, Option, Result, Ok, Err, IfSome, All, length, refl, ap, subst, ◌∙◌}
-use Rattle.std.specs.Prelude.{MatchBool, IfOk, nat_lt, slice_index_or}
+use Rattle.std.specs.Prelude.{MatchBool, IfOk, nat_lt}
 use Rattle.std.specs.Io.KnownBytes.{append_known}
 use Rattle.std.proofs.lemmas.List.{length-map}
 use Rattle.decl_base.specs.Limits.{standard}
@@ -19,7 +19,6 @@ use Rattle.minerful_words.specs.declared.settings.Stage.TheVariants.{Model}
 use Rattle.reduce_model.proofs.Consequences.{keepable, left_out, witnesses-break}
 use Rattle.reduce_model.proofs.Meaning.{same-traces}
 use Rattle.reduce_model.specs.Reduction.{IsReduction, Reduction}
-use Rattle.scoring.proofs.Members.{candidates_are}
 use Rattle.scoring.specs.Scores.{scored}
 use Rattle.template_core.specs.Constraints.{IsWellMadeFor}
 use Rattle.minerful_core.specs.Headline.{IsHeadline, MinesModel, PrintsModel}
@@ -27,12 +26,7 @@ use Rattle.minerful_core.specs.Outcome.{answers, candidates_in, constraints_in, 
 use Rattle.minerful_core.specs.Run.{WritesOutput}
 use Rattle.minerful_core.proofs.Models.{constraints-staying}
 use Rattle.minerful_core.proofs.Refusing.{told}
-use Rattle.minerful_core.proofs.Reports.{at_any, candidates_in_made, made_constraints}
-
-exact : (s : Settings) (log : List (List (List ℕ))) → All (λ c. c ≡ scored (by_ranks log) c.constraint) (candidates_in s log)
-exact s log k d inside =
-    let c = slice_index_or (candidates_in s log) k d in
-    ((candidates_are (by_ranks log) (length (sorted_names log)) s.repertoire s.thresholds c).0 (k, inside, at_any (candidates_in s log) k d c inside)).scores
+use Rattle.minerful_core.proofs.Reports.{candidates_in_made, each_candidate, made_constraints}
 
 -- the sentence holds of each reduction of the candidates
 headline : (s : Settings) (log : List (List (List ℕ))) (reduction : Reduction) → IsReduction (length (sorted_names log)) s.states (constraints_in (candidates_in s log)) reduction
@@ -46,7 +40,7 @@ headline s log reduction h =
       all = refl;
       each = h.reduced.as_many ∙ length-map list (λ c. c.constraint);
       listed = constraints-staying list reduction.decisions;
-      scores = exact s log;
+      scores = each_candidate s log (λ c. c ≡ scored (by_ranks log) c.constraint) (λ c h. h.scores);
       same_traces = same-traces n cs reduction.decisions made h.reduced;
       conflicts = h.reduced.conflicts;
       some_trace = keepable n s.states cs reduction h;

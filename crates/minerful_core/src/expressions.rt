@@ -1,9 +1,9 @@
-ghost use Rattle.std.specs.Prelude.{◌≡◌, IsSome, None, Some, map, IfOk, IfErr};
+ghost use Rattle.std.specs.Prelude.{◌≡◌, ◌++◌, IsSome, codes, map, IfOk, IfErr};
 ghost use Rattle.regex_forms.specs.Trees.{view};
-ghost use Rattle.regex_forms.specs.Forms.{tree_of};
-ghost use Rattle.template_core.specs.declared.kind.Kind.{Kind as KindOf};
+ghost use Rattle.regex_forms.specs.Matching.{Matches};
+ghost use Rattle.regex_forms.specs.Printing.{text as printed};
 ghost use Rattle.minerful_words.specs.Templates.{kind_named};
-ghost use Rattle.minerful_core.specs.Outcome.{IsExpressionOutcome, answers, class_of_letter};
+ghost use Rattle.minerful_core.specs.Outcome.{AnswersYes, IsExpressionOutcome, answers, class_of_letter};
 ghost use Rattle.minerful_core.specs.Run.{IsEnd};
 
 use crate::answer::Answer;
@@ -32,7 +32,7 @@ pub(crate) fn express(alloc: Global, settings: &Settings) -> Result<Answer, Refu
 
 /// The form as a line.
 fn expression(alloc: Global, form: &Form) -> Result<Answer, Refusal>
-    ensures text { IfOk result (λ a. (kind : KindOf) → view form.now ≡ tree_of kind → IsExpressionOutcome (Some kind) None (answers a.status a.text.items)) }
+    ensures text { IfOk result (λ a. answers a.status a.text.items ≡ answers Status.Done (printed (view form.now) ++ codes "\n")) }
     ensures end { IfOk result (λ a. IsEnd a.status) }
     ensures err { IfErr result (λ e. e ≡ Refusal.Memory) }
 {
@@ -46,7 +46,7 @@ fn expression(alloc: Global, form: &Form) -> Result<Answer, Refusal>
 
 /// Whether the form matches the word.
 fn try_word(alloc: Global, form: &Form, word: &str) -> Result<Answer, Refusal>
-    ensures text { IfOk result (λ a. (kind : KindOf) → view form.now ≡ tree_of kind → IsExpressionOutcome (Some kind) (Some word.now) (answers a.status a.text.items)) }
+    ensures text { IfOk result (λ a. AnswersYes (Matches (view form.now) (map class_of_letter word.now)) (answers a.status a.text.items)) }
     ensures end { IfOk result (λ a. IsEnd a.status) }
     ensures err { IfErr result (λ e. e ≡ Refusal.Memory) }
 {
@@ -64,7 +64,9 @@ fn try_word(alloc: Global, form: &Form, word: &str) -> Result<Answer, Refusal>
 fn classes_of(alloc: Global, word: &[u8]) -> Result<Vec<Class>, AllocError>
     ensures { IfOk result (λ classes. classes.items ≡ map class_of_letter word.now) }
 {
-    word.iter().map(|byte| class_of_letter(*byte)).collect(alloc)
+    word.iter()
+        .map(|byte| class_of_letter(*byte))
+        .collect(alloc)
 }
 
 /// The class that a letter stands for.

@@ -55,7 +55,15 @@ pub(crate) fn write_consistent(
 {
     match settings.out {
         Out::Json => {
-            let value = consistent_value(alloc, names, settings.repertoire, list, sifted, traces, events)?;
+            let value = consistent_value(
+                alloc,
+                names,
+                settings.repertoire,
+                list,
+                sifted,
+                traces,
+                events,
+            )?;
             text_of(alloc, &value)
         }
         Out::Table => consistent_table(alloc, names, list, sifted),
@@ -83,7 +91,15 @@ pub(crate) fn write_model(
 {
     match settings.out {
         Out::Json => {
-            let value = report_value(alloc, names, settings.repertoire, list, reduced, traces, events)?;
+            let value = report_value(
+                alloc,
+                names,
+                settings.repertoire,
+                list,
+                reduced,
+                traces,
+                events,
+            )?;
             text_of(alloc, &value)
         }
         Out::Table => model_table(alloc, names, list, reduced),

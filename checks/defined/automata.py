@@ -12,7 +12,15 @@ from defined.templates import EXISTENCE, keeps
 
 # The two activities of a template, and any other one.
 FIRST, SECOND, OTHER = range(3)
-CONTINUATIONS = [w for length in range(5) for w in itertools.product(range(3), repeat=length)]
+
+
+def up_to(most, symbols):
+    return [word for length in range(most + 1) for word in itertools.product(symbols, repeat=length)]
+
+
+# Continuations of k events tell all states apart where there are k + 1 at most. A template of one activity counts up to
+# nine events of it, and takes the second activity for any other one.
+CONTINUATIONS = {1: up_to(10, [FIRST, OTHER]), 2: up_to(4, range(3))}
 
 
 @dataclass(frozen=True)
@@ -43,16 +51,16 @@ def breadth_first(start, symbols, step, accepts):
 def table(template):
     """The least automaton of a template over First, Second, Other. Words are told apart by continuations."""
     constraint = template, (FIRST,) if template in EXISTENCE else (FIRST, SECOND)
+    continuations = CONTINUATIONS[len(constraint[1])]
     words = {}
 
     def row(word):
-        found = tuple(keeps(constraint, word + after) for after in CONTINUATIONS)
+        found = tuple(keeps(constraint, word + after) for after in continuations)
         words.setdefault(found, word)
         return found
 
     found = breadth_first(row(()), range(3), lambda state, symbol: row(words[state] + (symbol,)), lambda state: state[0])
-    # Continuations of 4 events tell all apart where there are 5 classes at most.
-    assert len(found.steps) <= 5, template
+    assert len(found.steps) <= len(continuations[-1]) + 1, template
     return found
 
 

@@ -8,7 +8,7 @@ from dataclasses import dataclass
 from defined.json_text import value_of
 from defined.logs import ACTIVITIES
 from defined.refusals import Refused
-from defined.templates import EXISTENCE, TEMPLATES, activated
+from defined.templates import EXISTENCE, SECOND_REPERTOIRE, TEMPLATES, activated
 
 MODEL_BYTES = 16_777_216
 CONSTRAINTS = 65_536
@@ -28,10 +28,10 @@ def are_lists_of_texts(value):
 
 
 def has_shape(value):
-    """An object with a list `constraints`; where it has `tasks` these are texts, and a whole `version` is 1."""
+    """An object with a list `constraints`; where it has `tasks` these are texts, and a whole `version` is 1 or 2."""
     if not isinstance(value, dict) or not isinstance(value.get("constraints"), list):
         return False
-    return are_texts(value.get("tasks", [])) and not (is_whole(value.get("version")) and value["version"] != 1)
+    return are_texts(value.get("tasks", [])) and not (is_whole(value.get("version")) and value["version"] not in (1, 2))
 
 
 def add_names(names, more):
@@ -41,14 +41,14 @@ def add_names(names, more):
         raise Refused("Activities", ACTIVITIES)
 
 
-def constraint_of(item, at):
-    """The template and the names of an item of `constraints`."""
+def constraint_of(item, at, templates):
+    """The template, one of these, and the names of an item of `constraints`."""
     if not isinstance(item, dict) or not isinstance(item.get("template"), str):
         raise Refused("ModelShape", at)
     if not are_lists_of_texts(item.get("parameters")):
         raise Refused("ModelShape", at)
     template, parameters = item["template"], item["parameters"]
-    if template not in TEMPLATES:
+    if template not in templates:
         raise Refused("UnknownTemplate", at)
     arity = 1 if template in EXISTENCE else 2
     if len(parameters) != arity or any(len(parameter) != 1 for parameter in parameters):
@@ -69,9 +69,10 @@ def model_of(data):
     if len(value["constraints"]) > CONSTRAINTS:
         raise Refused("Candidates", len(value["constraints"]))
     names, constraints = [], []
+    templates = SECOND_REPERTOIRE if is_whole(value.get("version")) and value["version"] == 2 else TEMPLATES
     add_names(names, value.get("tasks", []))
     for at, item in enumerate(value["constraints"], 1):
-        template, activities = constraint_of(item, at)
+        template, activities = constraint_of(item, at, templates)
         add_names(names, activities)
         constraints.append((template, tuple(map(names.index, activities))))
     return names, constraints

@@ -116,11 +116,11 @@ class Definitions:
                 each.witness = searches.least_trace(without(model.kept, each.constraint), each.constraint)
         if given["out"] == "table":
             return texts.model_table(names, listed, given["stage"] == "model")
-        return texts.report(names, log, listed, model, **told)
+        return texts.report(names, log, listed, model, given["repertoire"], **told)
 
     def model_of(self, given, names, log):
         """The candidates with their scores, and, but for stage `scores`, what becomes of them."""
-        scored = candidates(log, len(names), [given[name] for name in ["support", "confidence", "interest"]])
+        scored = candidates(log, len(names), [given[name] for name in ["support", "confidence", "interest"]], given["repertoire"])
         if len(scored) > CANDIDATES:
             raise Refused("Candidates", len(scored))
         if given["stage"] == "scores":

@@ -3,7 +3,10 @@
 import itertools
 from fractions import Fraction
 
-from defined.templates import BY_THE_SECOND, EXISTENCE, ONE_ORDER, RELATION, TEMPLATES, activated
+from defined.templates import BY_THE_SECOND, EXISTENCE, ONE_ORDER, RELATION, SECOND_REPERTOIRE, TEMPLATES, activated
+
+# Those that say what another one says are read in models, and not mined.
+MINED = {"1": TEMPLATES, "2": [each for each in SECOND_REPERTOIRE if each not in ("AtLeast1", "AtMost1")]}
 
 
 def traces_with(log, *activities):
@@ -32,9 +35,9 @@ def scores(constraint, log):
     return support, confidence, confidence * Fraction(p, len(log))
 
 
-def constraints_over(size):
-    """Each constraint over so many activities; of two orders that say the same, the one with the smaller rank first."""
-    for template in TEMPLATES:
+def constraints_over(size, templates):
+    """Each constraint of these templates over so many activities; of two orders that say the same, the one with the smaller rank first."""
+    for template in templates:
         if template in EXISTENCE:
             yield from ((template, (a,)) for a in range(size))
         else:
@@ -46,13 +49,13 @@ def constraints_over(size):
 def priority(constraint, scored):
     """What is less stands first."""
     template, activities = constraint
-    return [-score for score in scored], TEMPLATES.index(template), activities
+    return [-score for score in scored], SECOND_REPERTOIRE.index(template), activities
 
 
-def candidates(log, size, thresholds):
-    """The constraints that reach the thresholds, each with its scores, in the order of priority."""
+def candidates(log, size, thresholds, repertoire="1"):
+    """The constraints of the repertoire that reach the thresholds, each with its scores, in the order of priority."""
     reached = {}
-    for constraint in constraints_over(size):
+    for constraint in constraints_over(size, MINED[repertoire]):
         scored = scores(constraint, log)
         if all(score >= least for score, least in zip(scored, thresholds)):
             reached[constraint] = scored

@@ -51,10 +51,12 @@ def named(trace, names):
     return [names[rank] for rank in trace]
 
 
-def report(names, log, listed, model, dropped=None, example=None):
-    """`dropped` and `example` aren't there at stage `scores`."""
+def report(names, log, listed, model, repertoire, dropped=None, example=None):
+    """A report of the second repertoire has a version. `dropped` and `example` aren't there at stage `scores`."""
     constraints = [listed_value(each, names) for each in listed]
     value = {"constraints": constraints, "events": sum(map(len, log)), "tasks": names, "traces": len(log)}
+    if repertoire == "2":
+        value["version"] = 2
     if model is not None:
         value["dropped"] = [dropped_value(constraint, scored, model, names) for constraint, scored in dropped]
         value["example"] = named(example, names)

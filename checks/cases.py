@@ -346,13 +346,14 @@ WORDS = {
     "length": ["1", "16", "1000", "0", "1001", " 1"],
     "letters": ["1", "26", "0", "27", "a"],
     "repertoire": ["1", "2", "0", "3", "01", ""],
+    "on-limit": ["stop", "keep", "Keep", ""],
     "nosuch": ["1"],
     "supports": ["1"],
     "suppor": ["1"],
     "log": ["log.txt"],
     "help": [""],
 }
-KNOWN = list(WORDS)[:16]
+KNOWN = list(WORDS)[:17]
 OTHERS = ["-", "--", "log.txt", "-x", "-5", "--=x", "---support", "mine", "kb", "", "-h", "--version", "--help", "-Vx"]
 OTHERS += ["model.json", "check"]
 

@@ -117,6 +117,7 @@ VALUES = {
     "length": ["1", "10", "1000"],
     "letters": ["1", "26"],
     "repertoire": ["1", "2"],
+    "on-limit": ["stop", "keep"],
 }
 
 

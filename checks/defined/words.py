@@ -10,7 +10,7 @@ from defined.templates import EXISTENCE, SECOND_REPERTOIRE
 LOG_OPTIONS = ["format", "case-column", "activity-column", "order-column", "order-as"]
 MINE_OPTIONS = LOG_OPTIONS + ["support", "confidence", "interest", "max-states", "stage", "out"]
 GEN_OPTIONS = ["seed", "traces", "length", "letters"]
-LATER_OPTIONS = ["repertoire"]
+LATER_OPTIONS = ["repertoire", "on-limit"]
 
 # Of each command its options, and what it takes by its place.
 COMMANDS = {
@@ -72,6 +72,7 @@ MEANINGS = {
     "length": whole(1, 1_000),
     "letters": whole(1, 26),
     "repertoire": one_of("1", "2"),
+    "on-limit": one_of("stop", "keep"),
 }
 
 # What is taken where it isn't given.
@@ -92,6 +93,7 @@ DEFAULTS = {
     "length": 10,
     "letters": 4,
     "repertoire": "1",
+    "on-limit": "stop",
     "word": None,
     "model": "",
     "log": "-",

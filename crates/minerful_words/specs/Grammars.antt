@@ -1,5 +1,5 @@
 -- What the text of an option means, where it is in the grammar of the option.
-use Rattle.std.specs.Prelude.{◌≤◌, ℕ, List, Bool, ◌&&◌, Option, Some, None, codes, length, nat_le, if◌then◌else◌, option_and_then}
+use Rattle.std.specs.Prelude.{◌≤◌, ℕ, List, Bool, true, false, ◌&&◌, Option, Some, None, codes, length, nat_le, if◌then◌else◌, option_and_then}
 use Rattle.std.specs.List.{list_all}
 use Rattle.std.specs.Str.{bytes_eq}
 use Rattle.decl_base.specs.Threshold.{is_digit, number_of_digits}
@@ -82,3 +82,9 @@ unfoldable pub repertoire_of : List ℕ → Option Repertoire
 repertoire_of text =
     if bytes_eq text (codes "1") then Some repertoire.First
     else (if bytes_eq text (codes "2") then Some repertoire.Second else None)
+
+-- whether a run keeps on where the limit on states is met
+unfoldable pub keep_of : List ℕ → Option Bool
+keep_of text =
+    if bytes_eq text (codes "stop") then Some false
+    else (if bytes_eq text (codes "keep") then Some true else None)

@@ -1,5 +1,5 @@
 -- The settings that the words of the command line give, or the place of their fault.
-use Rattle.std.specs.Prelude.{◌≡◌, ◌≤◌, ◌*◌, ℕ, List, [], ◌∷◌, codes, Bool, ◌&&◌, nat_le, Option, Some, None, IsSome, Result, Ok, Err, unwrap_or, option_map, if◌then◌else◌}
+use Rattle.std.specs.Prelude.{◌≡◌, ◌≤◌, ◌*◌, ℕ, List, [], ◌∷◌, codes, Bool, false, ◌&&◌, nat_le, Option, Some, None, IsSome, Result, Ok, Err, unwrap_or, option_map, if◌then◌else◌}
 use Rattle.std.specs.Option.{ok_or}
 use Rattle.std.specs.Str.{bytes_eq}
 use Rattle.clap.specs.Words.{Row, Text, first_of}
@@ -13,7 +13,7 @@ use Rattle.log_columns.specs.declared.OrderAs.TheVariants as order
 use Rattle.template_core.specs.declared.kind.Kind.{Kind}
 use Rattle.template_core.specs.declared.repertoire.Repertoire.TheVariants as repertoire
 use Rattle.minerful_words.specs.Apps.{app_for, taken}
-use Rattle.minerful_words.specs.Grammars.{IsBetween, number_between, most_states, most_seed, most_traces, most_length, most_letters, format_of, order_as_of, stage_of, out_of, repertoire_of}
+use Rattle.minerful_words.specs.Grammars.{IsBetween, number_between, most_states, most_seed, most_traces, most_length, most_letters, format_of, order_as_of, stage_of, out_of, repertoire_of, keep_of}
 use Rattle.minerful_words.specs.Templates.{kind_named, is_word_if_any}
 use Rattle.minerful_words.specs.Table.{OptionRow, options, row_named, takes, is_command}
 use Rattle.minerful_words.specs.declared.settings.Command.{Command}
@@ -68,6 +68,7 @@ without_options command found = record {
   length = 10;
   letters = 4;
   repertoire = repertoire.First;
+  keep = false;
   word = first_of (codes "word") found;
 }
 
@@ -94,6 +95,7 @@ put field.Traces text s = option_map (λ v. record s { traces = v }) (number_bet
 put field.Length text s = option_map (λ v. record s { length = v }) (number_between 1 most_length text)
 put field.Letters text s = option_map (λ v. record s { letters = v }) (number_between 1 most_letters text)
 put field.Repertoire text s = option_map (λ v. record s { repertoire = v }) (repertoire_of text)
+put field.OnLimit text s = option_map (λ v. record s { keep = v }) (keep_of text)
 
 -- the text of an option among those found: none where the command doesn't take it
 abbrev pub text_for : Command → List Row → OptionRow → Option Text

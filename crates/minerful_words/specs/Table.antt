@@ -64,6 +64,7 @@ options =
     ∷ option 15 (codes "length") writing field.Length
     ∷ option 16 (codes "letters") writing field.Letters
     ∷ option 19 (codes "repertoire") mining field.Repertoire
+    ∷ option 20 (codes "on-limit") mining field.OnLimit
     ∷ []
 
 -- the model, which must be there; to `regex` it is the name of a template

@@ -9,7 +9,7 @@ ghost use Rattle.minerful_words.specs.Settings.{settings_in as settings_of_found
 ghost use Rattle.minerful_words.specs.Steps.{IsBounded};
 
 use crate::clap_command::text_of;
-use crate::grammars::{number_between, order_as_named, repertoire_numbered};
+use crate::grammars::{keep_named, number_between, order_as_named, repertoire_numbered};
 use crate::settings::{Command, Format, Out, Settings, Stage};
 use crate::table::{CommandOption, Field};
 use clap::ArgMatches;
@@ -127,6 +127,7 @@ impl Settings {
             length: 10,
             letters: 4,
             repertoire: Repertoire::First,
+            keep: false,
             word: name_if_any(alloc, text_of(found, "word"))?,
         })
     }
@@ -173,6 +174,7 @@ impl Settings {
             Field::Length => self.length = number_between(text, 1, MOST_LENGTH).ok_or(fault)?,
             Field::Letters => self.letters = number_between(text, 1, MOST_LETTERS).ok_or(fault)?,
             Field::Repertoire => self.repertoire = repertoire_numbered(text).ok_or(fault)?,
+            Field::OnLimit => self.keep = keep_named(text).ok_or(fault)?,
         }
         Ok(())
     }

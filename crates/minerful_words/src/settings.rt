@@ -78,6 +78,8 @@ pub struct Settings {
     pub letters: u64,
     /// The templates whose constraints are mined.
     pub repertoire: Repertoire,
+    /// Whether a constraint whose list is too wide is left out or left untested, in place of refusing the log.
+    pub keep: bool,
     /// The word that `regex` tries.
     pub word: Option<Name>,
 }

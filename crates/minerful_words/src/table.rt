@@ -25,6 +25,7 @@ pub(crate) enum Field {
     Length,
     Letters,
     Repertoire,
+    OnLimit,
 }
 
 /// An option with one text, and the commands that take it.
@@ -61,7 +62,7 @@ const GENERATING: &[Command] = &[Command::Gen, Command::Sample];
 /// The commands that write the log that they generate.
 const WRITING: &[Command] = &[Command::Gen];
 
-const OPTIONS: [CommandOption; 16] = [
+const OPTIONS: [CommandOption; 17] = [
     CommandOption {
         number: 2,
         name: "format",
@@ -157,6 +158,12 @@ const OPTIONS: [CommandOption; 16] = [
         name: "repertoire",
         commands: MINING,
         field: Field::Repertoire,
+    },
+    CommandOption {
+        number: 20,
+        name: "on-limit",
+        commands: MINING,
+        field: Field::OnLimit,
     },
 ];
 

@@ -9,7 +9,7 @@ use Rattle.dfa_core.specs.Languages.{HasNoMember, IsLeastMember}
 use Rattle.dfa_core.specs.Traces.{IsTrace}
 use Rattle.template_core.specs.Constraints.{IsWellMadeFor}
 use Rattle.template_core.specs.declared.constraint.Constraint.{Constraint}
-use Rattle.reduce_model.proofs.Determined.{conflict-lacks, reduced_unique}
+use Rattle.reduce_model.proofs.Determined.{conflict-lacks, reduced_unique, told-at}
 use Rattle.reduce_model.proofs.Lists.{first-not_narrow}
 use Rattle.reduce_model.proofs.Marks.{anything, true_or_false}
 use Rattle.reduce_model.proofs.Meaning.{keeps-at, same-traces}
@@ -56,7 +56,7 @@ left_out n list ds made h place c d at out = elim (true_or_false (is_consistent 
       let ed : get_or ds place Kept ≡ d = get_or_from_slice_get ds place d Kept at.decision in
       let has : get_or (map is_consistent ds) place false ≡ true = get_or-map is_consistent ds place Kept false ld ∙ (ap is_consistent ed ∙ consistent) in
       inr (λ w tw all. rw ec at (keeps-at (map is_consistent ds) list w place ((same-traces n list ds made h w tw).0 all) lt has))
-  | inr lacks ↦ inl ((h.conflicts place c d at).0 ((conflict-lacks d).1 lacks))
+  | inr lacks ↦ inl ((h.conflicts place c d at).0 ((conflict-lacks d (told-at ds h.none_at_limit place d at.decision)).1 lacks))
 ]
 
 -- ---- one reduction

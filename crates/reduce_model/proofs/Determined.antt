@@ -1,20 +1,28 @@
 -- The decisions of the reduction are determined, step by step.
-use Rattle.std.proofs.Common.{◌≡◌, ◌↔◌, ℕ, zero, suc, ◌+◌, ◌<◌, ◌≤◌, inl, inr, List, [], ◌∷◌, ◌++◌, Bool, true, false, IsTrue, length, map, take, drop, get_or, refl, sym, ap, ◌∙◌, arith}
+use Rattle.std.proofs.Common.{◌≡◌, ◌↔◌, ℕ, zero, suc, ◌+◌, ◌<◌, ◌≤◌, inl, inr, List, [], ◌∷◌, ◌++◌, Bool, true, false, not, IsTrue, Some, length, map, take, drop, get_or, refl, sym, ap, ◌∙◌, arith}
+use Rattle.std.specs.List.{AllByRecursion, slice_get}
 use Rattle.std.proofs.lemmas.Bool.{cases_lt}
+use Rattle.std.proofs.lemmas.Option.{get_or_from_slice_get, slice_get_within}
 use Rattle.std.proofs.lemmas.List.{ext_get_or, get_or-map, length-map, take_all}
 use Rattle.dfa_core.specs.Languages.{HasNoMember}
 use Rattle.template_core.specs.declared.constraint.Constraint.{Constraint}
 use Rattle.reduce_model.proofs.Marks.{Agree, IsBackward, IsForward, anything, at_place, backward_same, forward_same, lacks, tells, true_or_false}
-use Rattle.reduce_model.specs.Deciding.{is_consistent, is_kept, is_left, is_strongest, marked}
+use Rattle.reduce_model.specs.Deciding.{as_sifted, is_at_limit, is_consistent, is_kept, is_left, is_strongest, marked}
 use Rattle.reduce_model.specs.Keeping.{KeepsAll}
 use Rattle.reduce_model.specs.Reduction.{Implies, IsFirstAbove, IsReduced, TellsConflicts, TellsFirstPass, TellsSecondPass, TellsWeaker}
 use Rattle.reduce_model.specs.declared.decision.Decision.{Decision}
-use Rattle.reduce_model.specs.declared.decision.Decision.TheVariants.{Kept, Conflict, Weaker, FirstPass, SecondPass}
+use Rattle.reduce_model.specs.declared.decision.Decision.TheVariants.{Kept, Conflict, Weaker, FirstPass, SecondPass, Beyond, Untested}
 
 -- ---- each decision as the lack of a mark
 
-abbrev pub any : Decision → Bool
-any d = true
+-- it is none that a limit gives
+abbrev pub is_told : Decision → Bool
+is_told d = not (is_at_limit d)
+
+told-all : (ds : List Decision) → AllByRecursion (λ (d : Decision). is_at_limit d ≡ false) ds → (place : ℕ) → place < length ds → get_or (map is_told ds) place false ≡ true
+told-all [] h place lt = absurd (omega (arith, lt))
+told-all (d ∷ ds) h zero lt = ap not h.0
+told-all (d ∷ ds) h (suc place) lt = told-all ds h.1 place (omega (arith, lt))
 
 -- the facts for which a mark lacks
 abbrev pub Conflicts : ℕ → List Constraint → Constraint → Type 0
@@ -30,12 +38,20 @@ Has q ds place = get_or (map q ds) place false ≡ true
 abbrev pub Always : ℕ → Type 0
 Always place = Unit {0}
 
-pub conflict-lacks : (d : Decision) → d ≡ Conflict ↔ is_consistent d ≡ false
-conflict-lacks Kept = (λ e. cc, λ e. cc)
-conflict-lacks Conflict = (λ e. refl, λ e. refl)
-conflict-lacks (Weaker by) = (λ e. cc, λ e. cc)
-conflict-lacks FirstPass = (λ e. cc, λ e. cc)
-conflict-lacks SecondPass = (λ e. cc, λ e. cc)
+pub told-at : (ds : List Decision) → AllByRecursion (λ (d : Decision). is_at_limit d ≡ false) ds → (place : ℕ) (d : Decision) → slice_get ds place ≡ Some d → IsTrue (is_told d)
+told-at ds none place d is =
+    let lt = slice_get_within ds place d is in
+    let ed : get_or ds place Kept ≡ d = get_or_from_slice_get ds place d Kept is in
+    ap is_told (sym ed) ∙ (sym (get_or-map is_told ds place Kept false lt) ∙ told-all ds none place lt)
+
+pub conflict-lacks : (d : Decision) → IsTrue (is_told d) → d ≡ Conflict ↔ is_consistent d ≡ false
+conflict-lacks Kept t = (λ e. cc, λ e. cc)
+conflict-lacks Conflict t = (λ e. refl, λ e. refl)
+conflict-lacks (Weaker by) t = (λ e. cc, λ e. cc)
+conflict-lacks FirstPass t = (λ e. cc, λ e. cc)
+conflict-lacks SecondPass t = (λ e. cc, λ e. cc)
+conflict-lacks Beyond t = cc
+conflict-lacks Untested t = cc
 
 pub first_pass-lacks : (d : Decision) → IsTrue (is_strongest d) → d ≡ FirstPass ↔ is_left d ≡ false
 first_pass-lacks Kept s = (λ e. cc, λ e. cc)
@@ -43,6 +59,8 @@ first_pass-lacks Conflict s = (λ e. cc, λ e. cc)
 first_pass-lacks (Weaker by) s = (λ e. cc, λ e. cc)
 first_pass-lacks FirstPass s = (λ e. refl, λ e. refl)
 first_pass-lacks SecondPass s = (λ e. cc, λ e. cc)
+first_pass-lacks Beyond s = (λ e. cc, λ e. cc)
+first_pass-lacks Untested s = (λ e. cc, λ e. cc)
 
 pub second_pass-lacks : (d : Decision) → IsTrue (is_left d) → d ≡ SecondPass ↔ is_kept d ≡ false
 second_pass-lacks Kept s = (λ e. cc, λ e. cc)
@@ -50,6 +68,8 @@ second_pass-lacks Conflict s = (λ e. cc, λ e. cc)
 second_pass-lacks (Weaker by) s = (λ e. cc, λ e. cc)
 second_pass-lacks FirstPass s = (λ e. cc, λ e. cc)
 second_pass-lacks SecondPass s = (λ e. refl, λ e. refl)
+second_pass-lacks Beyond s = (λ e. cc, λ e. cc)
+second_pass-lacks Untested s = (λ e. cc, λ e. cc)
 
 pub left-strongest : (d : Decision) → is_strongest d ≡ false → is_left d ≡ false
 left-strongest Kept e = cc
@@ -57,6 +77,8 @@ left-strongest Conflict e = refl
 left-strongest (Weaker by) e = refl
 left-strongest FirstPass e = refl
 left-strongest SecondPass e = cc
+left-strongest Beyond e = refl
+left-strongest Untested e = cc
 
 pub kept-left : (d : Decision) → is_left d ≡ false → is_kept d ≡ false
 kept-left Kept e = cc
@@ -64,6 +86,8 @@ kept-left Conflict e = refl
 kept-left (Weaker by) e = refl
 kept-left FirstPass e = refl
 kept-left SecondPass e = cc
+kept-left Beyond e = refl
+kept-left Untested e = cc
 
 -- a read past the end
 pub past : (p : Decision → Bool) (ds : List Decision) (place : ℕ) → length ds ≤ place → get_or (map p ds) place false ≡ false
@@ -96,21 +120,25 @@ whole v u bound lv lu same = sym (take_all bound v lv) ∙ (same ∙ take_all bo
 
 -- ---- conflicts
 
-pub conflicts_forward : (n : ℕ) (list : List Constraint) (ds : List Decision) → length ds ≡ length list → TellsConflicts n list ds → IsForward (Conflicts n) Always list (map is_consistent ds) (length list)
-conflicts_forward n list ds many told place lt q =
-    lacks any is_consistent Conflict (λ (at : ℕ) (c : Constraint). Conflicts n (marked (take at (map is_consistent ds)) (take at list)) c) list ds (λ d holds. conflict-lacks d) many (λ at c d is holds. told at c d is) place lt
-    (mark-of any ds place (omega arith))
+pub conflicts_forward : (n : ℕ) (list : List Constraint) (ds : List Decision) → length ds ≡ length list → AllByRecursion (λ (d : Decision). is_at_limit d ≡ false) ds → TellsConflicts n list ds
+    → IsForward (Conflicts n) Always list (map is_consistent ds) (length list)
+conflicts_forward n list ds many none told place lt q =
+    lacks is_told is_consistent Conflict (λ (at : ℕ) (c : Constraint). Conflicts n (marked (take at (map is_consistent ds)) (take at list)) c) list ds conflict-lacks many (λ at c d is holds. told at c d is) place lt
+    (told-all ds none place (omega arith))
 
-pub forward_conflicts : (n : ℕ) (list : List Constraint) (ds : List Decision) → length ds ≡ length list → IsForward (Conflicts n) Always list (map is_consistent ds) (length list) → TellsConflicts n list ds
-forward_conflicts n list ds many forward place c d at =
-    tells any is_consistent Conflict (λ (at : ℕ) (c : Constraint). Conflicts n (marked (take at (map is_consistent ds)) (take at list)) c) list ds (λ d holds. conflict-lacks d) many (λ place lt holds. forward place lt tt) place c d at refl
+pub forward_conflicts : (n : ℕ) (list : List Constraint) (ds : List Decision) → length ds ≡ length list → AllByRecursion (λ (d : Decision). is_at_limit d ≡ false) ds → IsForward (Conflicts n) Always list (map is_consistent ds) (length list)
+    → TellsConflicts n list ds
+forward_conflicts n list ds many none forward place c d at =
+    tells is_told is_consistent Conflict (λ (at : ℕ) (c : Constraint). Conflicts n (marked (take at (map is_consistent ds)) (take at list)) c) list ds conflict-lacks many (λ place lt holds. forward place lt tt) place c d at
+    (told-at ds none place d at.decision)
 
-pub consistent_same : (n : ℕ) (list : List Constraint) (ds es : List Decision) → length ds ≡ length list → length es ≡ length list → TellsConflicts n list ds → TellsConflicts n list es → map is_consistent ds ≡ map is_consistent es
-consistent_same n list ds es md me td te =
+pub consistent_same : (n : ℕ) (list : List Constraint) (ds es : List Decision) → length ds ≡ length list → length es ≡ length list → AllByRecursion (λ (d : Decision). is_at_limit d ≡ false) ds → AllByRecursion (λ (d : Decision). is_at_limit d ≡ false) es → TellsConflicts n list ds → TellsConflicts n list es
+    → map is_consistent ds ≡ map is_consistent es
+consistent_same n list ds es md me nd ne td te =
     let ld = length-map ds is_consistent in
     let le = length-map es is_consistent in
     whole (map is_consistent ds) (map is_consistent es) (length list) (omega (arith, ld)) (omega (arith, le))
-    (forward_same (Conflicts n) Always list (map is_consistent ds) (map is_consistent es) (length list) (omega (arith, ld)) (omega (arith, le)) (conflicts_forward n list ds md td) (conflicts_forward n list es me te) (λ place. inl tt))
+    (forward_same (Conflicts n) Always list (map is_consistent ds) (map is_consistent es) (length list) (omega (arith, ld)) (omega (arith, le)) (conflicts_forward n list ds md nd td) (conflicts_forward n list es me ne te) (λ place. inl tt))
 
 -- ---- weaker ones
 
@@ -192,18 +220,34 @@ kept_same_from n list ds es left bound e md me same bd te =
 
 -- ---- all
 
-decision_same : (d e : Decision) → is_consistent d ≡ is_consistent e → ((by : ℕ) → d ≡ Weaker by → e ≡ Weaker by) → ((by : ℕ) → e ≡ Weaker by → d ≡ Weaker by) → is_left d ≡ is_left e → is_kept d ≡ is_kept e → d ≡ e
-decision_same (Weaker by) e c f g l k = sym (f by refl)
-decision_same d (Weaker by) c f g l k = g by refl
-decision_same Kept Kept c f g l k = refl
-decision_same Conflict Conflict c f g l k = refl
-decision_same FirstPass FirstPass c f g l k = refl
-decision_same SecondPass SecondPass c f g l k = refl
-decision_same d e c f g l k = cc
+-- decisions with the same marks
+pub decision_same : (d e : Decision) → as_sifted d ≡ as_sifted e → ((by : ℕ) → d ≡ Weaker by → e ≡ Weaker by) → ((by : ℕ) → e ≡ Weaker by → d ≡ Weaker by) → is_left d ≡ is_left e → is_kept d ≡ is_kept e
+    → (d ≡ Untested → e ≡ Untested) → (e ≡ Untested → d ≡ Untested) → d ≡ e
+decision_same (Weaker by) e c f g l k u v = sym (f by refl)
+decision_same d (Weaker by) c f g l k u v = g by refl
+decision_same Untested e c f g l k u v = sym (u refl)
+decision_same d Untested c f g l k u v = v refl
+decision_same Kept Kept c f g l k u v = refl
+decision_same Conflict Conflict c f g l k u v = refl
+decision_same FirstPass FirstPass c f g l k u v = refl
+decision_same SecondPass SecondPass c f g l k u v = refl
+decision_same Beyond Beyond c f g l k u v = refl
+decision_same d e c f g l k u v = cc
+
+sifted-same : (d e : Decision) → IsTrue (is_told d) → IsTrue (is_told e) → is_consistent d ≡ is_consistent e → as_sifted d ≡ as_sifted e
+sifted-same Beyond e t u c = cc
+sifted-same Conflict Conflict t u c = refl
+sifted-same d Beyond t u c = cc
+sifted-same Conflict e t u c = cc
+sifted-same d Conflict t u c = cc
+sifted-same d e t u c = refl
+
+not-untested : (d : Decision) → IsTrue (is_told d) → d ≡ Untested → ⊥
+not-untested d t e = let u : is_told Untested ≡ true = rw e at t in cc
 
 pub reduced_unique : (n : ℕ) (list : List Constraint) (ds es : List Decision) → IsReduced n list ds → IsReduced n list es → ds ≡ es
 reduced_unique n list ds es hd he =
-    let consistent = consistent_same n list ds es hd.as_many he.as_many hd.conflicts he.conflicts in
+    let consistent = consistent_same n list ds es hd.as_many he.as_many hd.none_at_limit he.none_at_limit hd.conflicts he.conflicts in
     let strongest = strongest_same list ds es hd.as_many he.as_many consistent hd.weaker he.weaker in
     let left = left_same n list ds es hd.as_many he.as_many strongest hd.first_pass he.first_pass in
     let kept : map is_kept ds ≡ map is_kept es =
@@ -213,6 +257,8 @@ reduced_unique n list ds es hd he =
     ext_get_or Kept ds es (md ∙ sym me) (λ place lt.
     let in_list : place < length list = omega arith in
     let le : place < length es = omega arith in
-    decision_same (get_or ds place Kept) (get_or es place Kept) (same-mark is_consistent ds es place lt le consistent)
+    let td : IsTrue (is_told (get_or ds place Kept)) = sym (mark-of is_told ds place lt) ∙ told-all ds hd.none_at_limit place lt in
+    let te : IsTrue (is_told (get_or es place Kept)) = sym (mark-of is_told es place le) ∙ told-all es he.none_at_limit place le in
+    decision_same (get_or ds place Kept) (get_or es place Kept) (sifted-same (get_or ds place Kept) (get_or es place Kept) td te (same-mark is_consistent ds es place lt le consistent))
     (weaker_same list ds es md me consistent hd.weaker he.weaker place in_list) (weaker_same list es ds me md (sym consistent) he.weaker hd.weaker place in_list) (same-mark is_left ds es place lt le left)
-    (same-mark is_kept ds es place lt le kept))
+    (same-mark is_kept ds es place lt le kept) (λ e. absurd (not-untested (get_or ds place Kept) td e)) (λ e. absurd (not-untested (get_or es place Kept) te e)))

@@ -1,5 +1,6 @@
 -- That a list of candidates has no reduction can't be.
 use Rattle.std.proofs.Common.{◌≡◌, ◌↔◌, ◌⊎◌, ℕ, zero, suc, ◌+◌, ◌<◌, ◌≤◌, inl, inr, List, [], ◌∷◌, ◌++◌, Bool, true, false, Option, None, Some, length, map, take, drop, get_or, set, refl, sym, ap, ◌∙◌, subst, arith, get_or-set_same, get_or-set_other}
+use Rattle.std.specs.List.{AllByRecursion}
 use Rattle.std.proofs.lemmas.Bool.{cases_eq, cases_lt}
 use Rattle.std.proofs.lemmas.List.{drop-set-lt, ext_get_or, get_or-map, get_or_append_left, get_or_push, length-map, length-set, length_push, take-append-le, take_all}
 use Rattle.template_core.specs.declared.constraint.Constraint.{Constraint}
@@ -7,7 +8,7 @@ use Rattle.reduce_model.proofs.Determined.{Always, Conflicts, ImpliesWith, backw
 use Rattle.reduce_model.proofs.Marks.{IsBackward, IsForward, anything, true_or_false}
 use Rattle.reduce_model.proofs.Prunes.{above-within}
 use Rattle.reduce_model.proofs.Writes.{first_above-unique, weaker-tells}
-use Rattle.reduce_model.specs.Deciding.{is_consistent, is_kept, is_left, is_strongest, marked}
+use Rattle.reduce_model.specs.Deciding.{is_at_limit, is_consistent, is_kept, is_left, is_strongest, marked}
 use Rattle.decl_base.specs.declared.refusal.Refusal.TheVariants.{States}
 use Rattle.reduce_model.proofs.Lists.{first-unique}
 use Rattle.reduce_model.specs.Building.{built_lists}
@@ -231,6 +232,19 @@ get_or-decisions_of [] c w l k start place at e lt = absurd (omega (arith, lt))
 get_or-decisions_of (x ∷ list) c w l k start zero at e lt = let same : start ≡ at = omega arith in rw same refl
 get_or-decisions_of (x ∷ list) c w l k start (suc place) at e lt = get_or-decisions_of list c w l k (suc start) place at (omega arith) (omega (arith, lt))
 
+limit-decide : (a : Bool) (w : Option ℕ) (l k : Bool) → is_at_limit (decide a w l k) ≡ false
+unfolding decide decide_left
+limit-decide false w l k = refl
+limit-decide true (Some by) l k = refl
+limit-decide true None true true = refl
+limit-decide true None true false = refl
+limit-decide true None false k = refl
+
+none-decisions_of : (list : List Constraint) (c : List Bool) (w : List (Option ℕ)) (l k : List Bool) (start : ℕ) → AllByRecursion (λ (d : Decision). is_at_limit d ≡ false) (decisions_of list c w l k start)
+unfolding decisions_of
+none-decisions_of [] c w l k start = tt
+none-decisions_of (x ∷ list) c w l k start = (limit-decide (get_or c start false) (get_or w start None) (get_or l start false) (get_or k start false), none-decisions_of list c w l k (suc start))
+
 strongest_mark : Bool → Option ℕ → Bool
 strongest_mark false w = false
 strongest_mark true (Some by) = false
@@ -311,6 +325,10 @@ module _ (n : ℕ) (list : List Constraint) (hc : MarksTo (Conflicts n) (λ plac
   unfolding ds
   many = length-decisions_of list hc.v hw.ws hl.v hk.v 0
 
+  none : AllByRecursion (λ (d : Decision). is_at_limit d ≡ false) ds
+  unfolding ds
+  none = none-decisions_of list hc.v hw.ws hl.v hk.v 0
+
   at : (place : ℕ) → place < length list → get_or ds place Kept ≡ decide (get_or hc.v place false) (get_or hw.ws place None) (get_or hl.v place false) (get_or hk.v place false)
   unfolding ds
   at place lt = get_or-decisions_of list hc.v hw.ws hl.v hk.v 0 place place (omega arith) lt
@@ -336,7 +354,8 @@ module _ (n : ℕ) (list : List Constraint) (hc : MarksTo (Conflicts n) (λ plac
   is_reduced : IsReduced n list ds
   is_reduced = record {
     as_many = many;
-    conflicts = forward_conflicts n list ds many (subst (λ (v : List Bool). IsForward (Conflicts n) Always list v (length list)) (sym consistent_view) (λ place lt q. hc.forward place lt refl));
+    none_at_limit = none;
+    conflicts = forward_conflicts n list ds many none (subst (λ (v : List Bool). IsForward (Conflicts n) Always list v (length list)) (sym consistent_view) (λ place lt q. hc.forward place lt refl));
     weaker = weaker-tells list ds many (λ place lt by consistent.
         let has : get_or hc.v place false ≡ true =
         sym (consistent-decide (get_or hc.v place false) (get_or hw.ws place None) (get_or hl.v place false) (get_or hk.v place false)) ∙ (ap is_consistent (sym (at place lt)) ∙ consistent) in

@@ -22,7 +22,7 @@ use Rattle.reduce_model.specs.Keeping.{KeepsAll}
 use Rattle.reduce_model.specs.Passes.{IsAutomatonOf, IsFirstPassed, IsNarrowList, before_first_pass, before_second_pass}
 use Rattle.reduce_model.specs.Reduction.{Breaks, Implies, TellsFirstPass}
 use Rattle.reduce_model.specs.declared.decision.Decision.{Decision}
-use Rattle.reduce_model.specs.declared.decision.Decision.TheVariants.{Kept, Conflict, Weaker, FirstPass, SecondPass}
+use Rattle.reduce_model.specs.declared.decision.Decision.TheVariants.{Kept, Conflict, Weaker, FirstPass, SecondPass, Beyond, Untested}
 use Rattle.reduce_model.specs.declared.prefixes.Prefix.{Prefix}
 
 -- ---- what keeps and breaks
@@ -65,6 +65,8 @@ passes-passes Conflict = refl
 passes-passes (Weaker by) = refl
 passes-passes FirstPass = refl
 passes-passes SecondPass = refl
+passes-passes Beyond = refl
+passes-passes Untested = refl
 
 pub take-nil : (size : ℕ) → let none : List Constraint = [] in take size none ≡ []
 take-nil zero = refl
@@ -97,6 +99,8 @@ not-strongest Conflict e k = (refl, refl)
 not-strongest (Weaker by) e k = (refl, refl)
 not-strongest FirstPass e k = (cc, cc)
 not-strongest SecondPass e k = (cc, cc)
+not-strongest Beyond e k = (refl, refl)
+not-strongest Untested e k = (cc, cc)
 
 strongest-passes : (d : Decision) → is_strongest (before_first_pass d) ≡ is_strongest d
 strongest-passes Kept = refl
@@ -104,13 +108,20 @@ strongest-passes Conflict = refl
 strongest-passes (Weaker by) = refl
 strongest-passes FirstPass = refl
 strongest-passes SecondPass = refl
+strongest-passes Beyond = refl
+strongest-passes Untested = refl
 
-pub is-kept : (d : Decision) → is_kept d ≡ true → d ≡ Kept
-is-kept Kept e = refl
-is-kept Conflict e = cc
-is-kept (Weaker by) e = cc
-is-kept FirstPass e = cc
-is-kept SecondPass e = cc
+pub is-kept : (d : Decision) → (d ≡ Untested → ⊥) → is_kept d ≡ true → d ≡ Kept
+is-kept Kept u e = refl
+is-kept Conflict u e = cc
+is-kept (Weaker by) u e = cc
+is-kept FirstPass u e = cc
+is-kept SecondPass u e = cc
+is-kept Beyond u e = cc
+is-kept Untested u e = absurd (u refl)
+
+fresh-tested : (d : Decision) → d ≡ before_first_pass d → d ≡ Untested → ⊥
+fresh-tested d e u = let k : Untested ≡ Kept = rw u at e in cc
 
 -- the marked ones before the next place
 pub before-lacks : (list : List Constraint) (marks : List Bool) (at : ℕ) → at < length marks → at < length list → get_or marks at false ≡ false
@@ -159,7 +170,7 @@ module _ (n s : ℕ) (list : List Constraint) (old new : List Decision) (at : �
   -- one that is left joins
   module _ (kept : is_kept (get_or new at Kept) ≡ true) where
     is : get_or new at Kept ≡ Kept
-    is = is-kept (get_or new at Kept) kept
+    is = is-kept (get_or new at Kept) (fresh-tested (get_or new at Kept) (h.fresh at (omega arith) in_list)) kept
 
     has_left : get_or (map is_left new) at false ≡ true
     has_left = get_or-map is_left new at Kept false within ∙ ap is_left is

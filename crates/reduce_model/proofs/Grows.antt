@@ -1,9 +1,9 @@
 -- An automaton that constraints join, one after the other.
-use Rattle.std.proofs.Common.{◌≡◌, ◌↔◌, ℕ, zero, suc, ◌+◌, ◌-◌, ◌<◌, ◌≤◌, inl, inr, List, [], ◌∷◌, ◌++◌, length, take, sym, ap, subst, ◌∙◌, arith, length-append}
+use Rattle.std.proofs.Common.{◌≡◌, ◌↔◌, ℕ, zero, suc, ◌+◌, ◌-◌, ◌<◌, ◌≤◌, inl, inr, List, [], ◌∷◌, ◌++◌, length, take, refl, sym, ap, subst, ◌∙◌, arith, length-append}
 use Rattle.std.proofs.Math.Seq.{take-append-add}
 use Rattle.std.proofs.lemmas.Bool.{cases_lt}
 use Rattle.std.proofs.lemmas.List.{append-nil, take-append-le, take_all}
-use Rattle.dfa_core.specs.Automaton.{Automaton, Accepts, IsReachable, state_count, steps_of}
+use Rattle.dfa_core.specs.Automaton.{Automaton, Accepts, state_count}
 use Rattle.dfa_core.specs.Languages.{HasNoMember, IsLeastMember}
 use Rattle.dfa_core.specs.Traces.{IsTrace}
 use Rattle.dfa_minimise.specs.Wide.{IsWide}
@@ -25,11 +25,11 @@ pub record IsGrowing (s : ℕ) (a : Automaton) (list : List Constraint) (at : �
   pub few : state_count dfa ≤ 65536
   pub narrow : (size : ℕ) → 0 < size → size ≤ at → IsWide a.symbols (AcceptsAll a (take size list)) s → ⊥
 
-pub growing-none : (s : ℕ) (a : Automaton) (list : List Constraint) (copy : Automaton) → state_count a ≤ 65536 → IsReachable (steps_of a) copy → IsGrowing s a list 0 copy
-growing-none s a list copy few h = record {
-  over = h.over;
-  same = λ w tw. let e = h.same w tw in (λ is. (sym e ∙ is, tt), λ both. e ∙ both.0);
-  few = let less = h.few in omega (arith, less, few);
+pub growing-none : (s : ℕ) (a : Automaton) (list : List Constraint) → state_count a ≤ 65536 → IsGrowing s a list 0 a
+growing-none s a list few = record {
+  over = refl;
+  same = λ w tw. (λ is. (is, tt), λ both. both.0);
+  few = few;
   narrow = λ size some le wide. omega (arith, some, le);
 }
 

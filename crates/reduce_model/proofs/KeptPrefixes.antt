@@ -1,10 +1,13 @@
 -- Prefixes that the first pass keeps for the second.
-use Rattle.std.proofs.Common.{◌≡◌, ◌⊎◌, ℕ, ◌+◌, ◌<◌, ◌≤◌, inl, inr, List, [], ◌∷◌, ◌++◌, Bool, length, take, arith}
-use Rattle.std.proofs.lemmas.List.{get_or_append_left, length_push}
+use Rattle.std.proofs.Common.{◌≡◌, ◌⊎◌, ℕ, ◌+◌, ◌<◌, ◌≤◌, inl, inr, List, [], ◌∷◌, ◌++◌, Bool, length, map, take, drop, sym, ap, ◌∙◌, arith}
+use Rattle.std.proofs.lemmas.List.{get_or_append_left, length_push, take-append-le, take-take, take_all}
 use Rattle.std.proofs.lemmas.List.Elements.{All-push, All-weaker}
 use Rattle.std.specs.List.{All, HoldsAt}
 use Rattle.template_core.specs.declared.constraint.Constraint.{Constraint}
-use Rattle.reduce_model.specs.Passes.{AreKeptPrefixes, IsPrefixOf}
+use Rattle.reduce_model.specs.Passes.{AreKeptPrefixes, IsPrefixOf, IsStart}
+use Rattle.reduce_model.specs.Deciding.{is_kept, is_left, marked, those}
+use Rattle.reduce_model.specs.declared.decision.Decision.{Decision}
+use Rattle.reduce_model.proofs.Writes.{marked-split}
 use Rattle.reduce_model.specs.declared.prefixes.Prefix.{Prefix}
 
 -- one of them, of candidates before a place
@@ -53,3 +56,27 @@ kept-end n s list marks at prefixes h = record {
   first = h.first;
   are = All-weaker (IsPrefixUpTo n s list marks at) (IsPrefixOf n s list marks) (λ prefix p. p.is) prefixes h.are;
 }
+
+-- the first of them has none
+pub first-length : (n s : ℕ) (list : List Constraint) (marks : List Bool) (prefixes : List Prefix) → AreKeptPrefixes n s list marks prefixes → HoldsAt (λ (prefix : Prefix). prefix.length ≡ 0) prefixes 0
+first-length n s list marks prefixes h = λ d.
+    let at_start = h.first d in
+    let counted = (h.are 0 d h.some).counted in
+    rw at_start at counted
+
+-- one that has no more than the first that stay, before which none is dropped
+pub start-of : (n s : ℕ) (list : List Constraint) (ds : List Decision) (prefix : Prefix) (size : ℕ) → IsPrefixOf n s list (map is_left ds) prefix → prefix.length ≤ size
+    → take size (those is_left list ds) ≡ take size (those is_kept list ds) → IsStart n s (take prefix.length (those is_kept list ds)) prefix
+start-of n s list ds prefix size h le same =
+    let front : List Constraint = marked (take prefix.place (map is_left ds)) (take prefix.place list) in
+    let back : List Constraint = marked (drop prefix.place (map is_left ds)) (drop prefix.place list) in
+    let cut : take (length front) (those is_left list ds) ≡ front =
+    ap (take (length front)) (marked-split (map is_left ds) list prefix.place) ∙ (take-append-le (length front) front back (omega arith) ∙ take_all (length front) front (omega arith)) in
+    let is : take prefix.length (those is_kept list ds) ≡ front =
+    sym (take-take prefix.length size (those is_kept list ds) le)
+    ∙ (ap (take prefix.length) (sym same) ∙ (take-take prefix.length size (those is_left list ds) le ∙ (ap (λ (k : ℕ). take k (those is_left list ds)) h.counted ∙ cut))) in
+    rw is (record {
+      automaton = h.automaton;
+      counted = h.counted;
+      narrow = h.narrow;
+    })

@@ -10,7 +10,7 @@ use Rattle.reduce_model.specs.Deciding.{is_kept, is_left, those}
 use Rattle.reduce_model.specs.Keeping.{KeepsAll}
 use Rattle.reduce_model.specs.Passes.{IsFirstPrefix, IsNarrowList}
 use Rattle.reduce_model.specs.declared.decision.Decision.{Decision}
-use Rattle.reduce_model.specs.declared.decision.Decision.TheVariants.{Kept, Conflict, Weaker, FirstPass, SecondPass}
+use Rattle.reduce_model.specs.declared.decision.Decision.TheVariants.{Kept, Conflict, Weaker, FirstPass, SecondPass, Beyond, Untested}
 
 -- the list is wide
 abbrev pub Wide : ℕ → ℕ → List Constraint → Type 0
@@ -140,6 +140,10 @@ tests-split before (x ∷ xs) ys (Kept ∷ ds) es same =
 tests-split before (x ∷ xs) ys (SecondPass ∷ ds) es same =
     more-left (λ (b : List Constraint). tests b ys es) before x (those is_left xs ds) (tests (before ++ x ∷ []) (xs ++ ys) (ds ++ es)) (before ++ those is_kept (xs ++ ys) (ds ++ es))
     (tests-split (before ++ x ∷ []) xs ys ds es (omega (arith, same)))
+tests-split before (x ∷ xs) ys (Untested ∷ ds) es same =
+    more-left (λ (b : List Constraint). tests b ys es) before x (those is_left xs ds) (tests (before ++ x ∷ []) (xs ++ ys) (ds ++ es)) (before ++ those is_kept (xs ++ ys) (ds ++ es))
+    (tests-split (before ++ x ∷ []) xs ys ds es (omega (arith, same)))
+tests-split before (x ∷ xs) ys (Beyond ∷ ds) es same = tests-split before xs ys ds es (omega (arith, same))
 tests-split before (x ∷ xs) ys (Conflict ∷ ds) es same = tests-split before xs ys ds es (omega (arith, same))
 tests-split before (x ∷ xs) ys (Weaker by ∷ ds) es same = tests-split before xs ys ds es (omega (arith, same))
 tests-split before (x ∷ xs) ys (FirstPass ∷ ds) es same = tests-split before xs ys ds es (omega (arith, same))

@@ -11,7 +11,7 @@ use Rattle.template_core.specs.declared.constraint.Constraint.{Constraint}
 use Rattle.template_set.proofs.Rows.{keeps_below, strict}
 use Rattle.template_set.specs.Hierarchy.{IsStronger}
 use Rattle.template_set.specs.Hierarchy.IsStronger.{directly, through}
-use Rattle.reduce_model.proofs.FirstPasses.{before-has, before-lacks, is-kept, none-implies}
+use Rattle.reduce_model.proofs.FirstPasses.{before-has, before-lacks, none-implies}
 use Rattle.reduce_model.proofs.Marks.{anything, at_place, true_or_false}
 use Rattle.reduce_model.proofs.Prunes.{above-here, here-above}
 use Rattle.reduce_model.proofs.Sifts.{push-keeps}
@@ -21,7 +21,7 @@ use Rattle.reduce_model.specs.Keeping.{KeepsAll, KeepsOne}
 use Rattle.reduce_model.specs.Passes.{IsIrredundant}
 use Rattle.reduce_model.specs.Reduction.{Implies, IsAbove, IsReduced}
 use Rattle.reduce_model.specs.declared.decision.Decision.{Decision}
-use Rattle.reduce_model.specs.declared.decision.Decision.TheVariants.{Kept, Conflict, Weaker, FirstPass, SecondPass}
+use Rattle.reduce_model.specs.declared.decision.Decision.TheVariants.{Kept, Conflict, Weaker, FirstPass, SecondPass, Beyond, Untested}
 
 -- ---- which of a list a trace keeps
 
@@ -67,6 +67,8 @@ kept-or-second Conflict e = cc
 kept-or-second (Weaker by) e = cc
 kept-or-second FirstPass e = cc
 kept-or-second SecondPass e = inr refl
+kept-or-second Beyond e = cc
+kept-or-second Untested e = inl refl
 
 left-or-first : (d : Decision) → is_strongest d ≡ true → (is_left d ≡ true) ⊎ (d ≡ FirstPass)
 left-or-first Kept e = inl refl
@@ -74,6 +76,8 @@ left-or-first Conflict e = cc
 left-or-first (Weaker by) e = cc
 left-or-first FirstPass e = inr refl
 left-or-first SecondPass e = inl refl
+left-or-first Beyond e = cc
+left-or-first Untested e = inl refl
 
 strongest-or-weaker : (d : Decision) → is_consistent d ≡ true → (is_strongest d ≡ true) ⊎ ((by : ℕ) × (d ≡ Weaker by))
 strongest-or-weaker Kept e = inl refl
@@ -81,6 +85,8 @@ strongest-or-weaker Conflict e = cc
 strongest-or-weaker (Weaker by) e = inr (by, refl)
 strongest-or-weaker FirstPass e = inl refl
 strongest-or-weaker SecondPass e = inl refl
+strongest-or-weaker Beyond e = cc
+strongest-or-weaker Untested e = inl refl
 
 kept-consistent : (d : Decision) → is_kept d ≡ true → is_consistent d ≡ true
 kept-consistent Kept e = refl
@@ -88,6 +94,8 @@ kept-consistent Conflict e = cc
 kept-consistent (Weaker by) e = cc
 kept-consistent FirstPass e = cc
 kept-consistent SecondPass e = cc
+kept-consistent Beyond e = cc
+kept-consistent Untested e = refl
 
 stronger-trans : {c d e : Constraint} → IsStronger c d → IsStronger d e → IsStronger c e
 stronger-trans (directly l) q = through l q
@@ -219,6 +227,8 @@ kept-left_mark Conflict e = cc
 kept-left_mark (Weaker by) e = cc
 kept-left_mark FirstPass e = cc
 kept-left_mark SecondPass e = cc
+kept-left_mark Beyond e = cc
+kept-left_mark Untested e = refl
 
 kept-left_marks : (ds : List Decision) (place : ℕ) → get_or (map is_kept ds) place false ≡ true → get_or (map is_left ds) place false ≡ true
 kept-left_marks [] place e = cc
@@ -245,7 +255,6 @@ irredundant n list ds h k c is none =
     let many = h.as_many in
     let ld : place < length ds = omega (arith, many, lt) in
     let kept : is_kept (get_or ds place Kept) ≡ true = sym (mark is_kept ds place ld) ∙ p.3 in
-    let stays : get_or ds place Kept ≡ Kept = is-kept (get_or ds place Kept) kept in
     let told = h.second_pass place (get_or list place anything) (get_or ds place Kept) (at_place list ds place h.as_many lt) (kept-left_mark (get_or ds place Kept) kept) in
     let implies : Implies n (marked (take place (map is_left ds)) (take place list) ++ marked (drop (suc place) (map is_kept ds)) (drop (suc place) list)) (get_or list place anything) = λ w tw all.
     let parts = (keeps-append (marked (take place (map is_left ds)) (take place list)) (marked (drop (suc place) (map is_kept ds)) (drop (suc place) list)) w).0 all in
@@ -254,4 +263,5 @@ irredundant n list ds h k c is none =
     let back : KeepsAll (drop (suc k) (those is_kept list ds)) w = rw p.5 parts.1 in
     rw p.2 (none-implies n (take k (those is_kept list ds) ++ drop (suc k) (those is_kept list ds)) c none w tw ((keeps-append (take k (those is_kept list ds)) (drop (suc k) (those is_kept list ds)) w).1 (front, back))) in
     let second = told.1 implies in
-    cc (second, stays)
+    let stays : is_kept SecondPass ≡ true = rw second at kept in
+    cc

@@ -6,43 +6,47 @@ use Rattle.std.proofs.lemmas.Option.{get_or_from_slice_get, slice_get-get_or, sl
 use Rattle.template_core.specs.declared.constraint.Constraint.{Constraint}
 use Rattle.reduce_model.proofs.Marks.{anything}
 use Rattle.reduce_model.proofs.Writes.{WeakerAt, first_above-unique, fixed-at, fixed-fixed, map-set_same, weaker-tells}
-use Rattle.reduce_model.specs.Deciding.{is_consistent}
-use Rattle.reduce_model.specs.Passes.{IsPruned, before_first_pass, before_pruning}
+use Rattle.reduce_model.specs.Deciding.{as_sifted, is_consistent}
+use Rattle.reduce_model.specs.Passes.{IsPruned, before_first_pass}
 use Rattle.template_set.specs.Hierarchy.{IsStronger}
 use Rattle.reduce_model.specs.Reduction.{IsAbove, IsFirstAbove}
 use Rattle.reduce_model.specs.declared.decision.Decision.{Decision}
-use Rattle.reduce_model.specs.declared.decision.Decision.TheVariants.{Kept, Conflict, Weaker, FirstPass, SecondPass}
+use Rattle.reduce_model.specs.declared.decision.Decision.TheVariants.{Kept, Conflict, Weaker, FirstPass, SecondPass, Beyond, Untested}
 
 -- the candidates before a place are pruned, the others not yet
 pub record IsPruning (list : List Constraint) (old new : List Decision) (at : ℕ) : Type 0 where
   pub as_many : length new ≡ length list
-  pub same : map before_pruning new ≡ old
+  pub same : map as_sifted new ≡ old
   pub weaker : (place : ℕ) → place < at → WeakerAt list new place
-  pub fresh : (place : ℕ) → at ≤ place → place < length list → get_or new place Kept ≡ before_pruning (get_or new place Kept)
+  pub fresh : (place : ℕ) → at ≤ place → place < length list → get_or new place Kept ≡ as_sifted (get_or new place Kept)
   pub later : map before_first_pass new ≡ new
 
-passes-pruning : (d : Decision) → before_first_pass (before_pruning d) ≡ before_pruning d
+passes-pruning : (d : Decision) → before_first_pass (as_sifted d) ≡ as_sifted d
 passes-pruning Kept = refl
 passes-pruning Conflict = refl
 passes-pruning (Weaker by) = refl
 passes-pruning FirstPass = refl
 passes-pruning SecondPass = refl
+passes-pruning Beyond = refl
+passes-pruning Untested = refl
 
-pub pruning-none : (list : List Constraint) (old : List Decision) → length old ≡ length list → map before_pruning old ≡ old → IsPruning list old old 0
+pub pruning-none : (list : List Constraint) (old : List Decision) → length old ≡ length list → map as_sifted old ≡ old → IsPruning list old old 0
 pruning-none list old many sifted = record {
   as_many = many;
   same = sifted;
   weaker = λ place lt. absurd (omega (arith, lt));
-  fresh = λ place le lt. fixed-at before_pruning old place (omega arith) sifted;
-  later = fixed-fixed before_pruning before_first_pass old passes-pruning sifted;
+  fresh = λ place le lt. fixed-at as_sifted old place (omega arith) sifted;
+  later = fixed-fixed as_sifted before_first_pass old passes-pruning sifted;
 }
 
-consistent-kept : (d : Decision) → d ≡ before_pruning d → is_consistent d ≡ true → d ≡ Kept
+consistent-kept : (d : Decision) → d ≡ as_sifted d → is_consistent d ≡ true → d ≡ Kept
 consistent-kept Kept e c = refl
 consistent-kept Conflict e c = cc
 consistent-kept (Weaker by) e c = e
 consistent-kept FirstPass e c = e
 consistent-kept SecondPass e c = e
+consistent-kept Beyond e c = cc
+consistent-kept Untested e c = e
 
 -- a conflict is left alone
 pub pruning-conflict : (list : List Constraint) (old new : List Decision) (at : ℕ) → IsPruning list old new at → is_consistent (get_or new at Kept) ≡ false → IsPruning list old new (at + 1)
@@ -86,7 +90,7 @@ pruning-weaker list old new at by in_list h yes_ first =
     let view : map is_consistent written ≡ map is_consistent new = map-set_same is_consistent new at (Weaker by) (sym yes_) in
     record {
       as_many = length-set new at (Weaker by) ∙ many;
-      same = map-set_same before_pruning new at (Weaker by) (sym (ap before_pruning kept)) ∙ h.same;
+      same = map-set_same as_sifted new at (Weaker by) (sym (ap as_sifted kept)) ∙ h.same;
       weaker = λ place lt other consistent. elim (cases_eq place at) [
         | inl e ↦
             let is : get_or written place Kept ≡ Weaker by = rw e (get_or-set_same new at (Weaker by) Kept within) in

@@ -1,6 +1,6 @@
 -- The steps of the reduction put together.
 use Rattle.std.proofs.Common.{◌≡◌, ◌↔◌, ℕ, zero, suc, ◌+◌, ◌<◌, ◌≤◌, inl, inr, List, [], ◌∷◌, ◌++◌, Bool, true, false, length, map, take, drop, get_or, refl, sym, ap, ◌∙◌, subst, arith, append_assoc}
-use Rattle.std.specs.List.{All}
+use Rattle.std.specs.List.{All, AllByRecursion}
 use Rattle.std.proofs.lemmas.Bool.{cases_lt}
 use Rattle.std.proofs.lemmas.List.{append-nil, get_or-map, get_or-take, length-map, length-take, length-take-le, take-take, take_all, take_more}
 use Rattle.decl_base.specs.declared.refusal.Refusal.{Refusal}
@@ -14,16 +14,17 @@ use Rattle.reduce_model.proofs.Lists.{first-here, first-skip, narrow-append, pha
 use Rattle.reduce_model.proofs.Marks.{IsForward, anything, forward_same}
 use Rattle.reduce_model.proofs.Meaning.{irredundant, same-traces}
 use Rattle.reduce_model.proofs.Members.{least-same}
+use Rattle.reduce_model.proofs.SecondPasses.{fixed-tested}
 use Rattle.reduce_model.proofs.Sifts.{empty-narrow}
 use Rattle.reduce_model.proofs.Writes.{marked-split, tells-weaker, view_same, weaker-tells}
 use Rattle.reduce_model.specs.Building.{AreNarrow, Built, IsFirstOfWide, all_but_each, built_lists, in_phase, tests, up_to_each}
-use Rattle.reduce_model.specs.Deciding.{is_consistent, is_kept, is_left, is_strongest, marked, those}
+use Rattle.reduce_model.specs.Deciding.{as_sifted, is_at_limit, is_consistent, is_kept, is_left, is_strongest, marked, those}
 use Rattle.reduce_model.specs.Keeping.{KeepsAll}
-use Rattle.reduce_model.specs.Passes.{IsFirstPassed, IsIrredundant, IsNarrowList, IsPruned, IsSecondPassed, IsWitnessed, RefusesFirstPass, RefusesSecondPass, RefusesWitnesses, before_first_pass, before_pruning, before_second_pass}
+use Rattle.reduce_model.specs.Passes.{IsFirstPassed, IsIrredundant, IsNarrowList, IsPruned, IsSecondPassed, IsWitnessed, RefusesFirstPass, RefusesSecondPass, RefusesWitnesses, before_first_pass, before_second_pass}
 use Rattle.reduce_model.specs.Reduction.{IsReduced, IsReduction, RefusesReduction, TellsConflicts, TellsFirstPass, TellsWeaker}
 use Rattle.reduce_model.specs.Sifting.{IsFirstWide, IsNarrow, IsSifted, RefusesSift, kept_of}
 use Rattle.reduce_model.specs.declared.decision.Decision.{Decision}
-use Rattle.reduce_model.specs.declared.decision.Decision.TheVariants.{Kept, Conflict, Weaker, FirstPass, SecondPass}
+use Rattle.reduce_model.specs.declared.decision.Decision.TheVariants.{Kept, Conflict, Weaker, FirstPass, SecondPass, Beyond, Untested}
 
 -- ---- the sift's marks
 
@@ -35,13 +36,21 @@ sifted-many n kept (c ∷ list) (Kept ∷ ds) h = ap suc (sifted-many n (kept ++
 sifted-many n kept (c ∷ list) (Conflict ∷ ds) h = ap suc (sifted-many n kept list ds h.1)
 sifted-many n kept (c ∷ list) (d ∷ ds) h = absurd h
 
-pub sifted-fixed : (n : ℕ) (kept list : List Constraint) (ds : List Decision) → IsSifted n kept list ds → map before_pruning ds ≡ ds
+pub sifted-fixed : (n : ℕ) (kept list : List Constraint) (ds : List Decision) → IsSifted n kept list ds → map as_sifted ds ≡ ds
 sifted-fixed n kept [] [] h = refl
 sifted-fixed n kept [] (d ∷ ds) h = absurd h
 sifted-fixed n kept (c ∷ list) [] h = absurd h
 sifted-fixed n kept (c ∷ list) (Kept ∷ ds) h = ap (λ (l : List Decision). Kept ∷ l) (sifted-fixed n (kept ++ c ∷ []) list ds h.1)
 sifted-fixed n kept (c ∷ list) (Conflict ∷ ds) h = ap (λ (l : List Decision). Conflict ∷ l) (sifted-fixed n kept list ds h.1)
 sifted-fixed n kept (c ∷ list) (d ∷ ds) h = absurd h
+
+sifted-none : (n : ℕ) (kept list : List Constraint) (ds : List Decision) → IsSifted n kept list ds → AllByRecursion (λ (d : Decision). is_at_limit d ≡ false) ds
+sifted-none n kept [] [] h = tt
+sifted-none n kept [] (d ∷ ds) h = absurd h
+sifted-none n kept (c ∷ list) [] h = absurd h
+sifted-none n kept (c ∷ list) (Kept ∷ ds) h = (refl, sifted-none n (kept ++ c ∷ []) list ds h.1)
+sifted-none n kept (c ∷ list) (Conflict ∷ ds) h = (refl, sifted-none n kept list ds h.1)
+sifted-none n kept (c ∷ list) (d ∷ ds) h = absurd h
 
 sifted-kept : (n : ℕ) (kept list : List Constraint) (ds : List Decision) → IsSifted n kept list ds → those is_consistent list ds ≡ kept_of list ds
 sifted-kept n kept [] [] h = refl
@@ -155,7 +164,7 @@ module _ (n s : ℕ) (list : List Constraint) (built : ℕ) (some : 1 ≤ s) (h 
       let marks = sift_marks in
       sym (take_all h.count (map is_consistent h.after.decisions) (omega (arith, marks)))
       ∙ forward_same (Conflicts n) Always list (map is_consistent h.after.decisions) (map is_consistent es) h.count (omega (arith, marks)) (omega (arith, long, many, within)) forward_sift
-      (λ place lt q. conflicts_forward n list es he.as_many he.conflicts place (omega (arith, lt, within)) q) (λ place. inl tt)
+      (λ place lt q. conflicts_forward n list es he.as_many he.none_at_limit he.conflicts place (omega (arith, lt, within)) q) (λ place. inl tt)
 
   split_kept : those is_consistent list es ≡ h.kept ++ marked (drop h.count (map is_consistent es)) (drop h.count list)
   split_kept =
@@ -233,12 +242,14 @@ refused-1 n s list refusal some h = absurd h
 
 -- ---- the marks that a later step leaves as they are
 
-consistent-pruning : (d : Decision) → is_consistent (before_pruning d) ≡ is_consistent d
+consistent-pruning : (d : Decision) → is_consistent (as_sifted d) ≡ is_consistent d
 consistent-pruning Kept = refl
 consistent-pruning Conflict = refl
 consistent-pruning (Weaker by) = refl
 consistent-pruning FirstPass = refl
 consistent-pruning SecondPass = refl
+consistent-pruning Beyond = refl
+consistent-pruning Untested = refl
 
 consistent-first : (d : Decision) → is_consistent (before_first_pass d) ≡ is_consistent d
 consistent-first Kept = refl
@@ -246,6 +257,8 @@ consistent-first Conflict = refl
 consistent-first (Weaker by) = refl
 consistent-first FirstPass = refl
 consistent-first SecondPass = refl
+consistent-first Beyond = refl
+consistent-first Untested = refl
 
 strongest-first : (d : Decision) → is_strongest (before_first_pass d) ≡ is_strongest d
 strongest-first Kept = refl
@@ -253,6 +266,8 @@ strongest-first Conflict = refl
 strongest-first (Weaker by) = refl
 strongest-first FirstPass = refl
 strongest-first SecondPass = refl
+strongest-first Beyond = refl
+strongest-first Untested = refl
 
 strongest-second : (d : Decision) → is_strongest (before_second_pass d) ≡ is_strongest d
 strongest-second Kept = refl
@@ -260,6 +275,8 @@ strongest-second Conflict = refl
 strongest-second (Weaker by) = refl
 strongest-second FirstPass = refl
 strongest-second SecondPass = refl
+strongest-second Beyond = refl
+strongest-second Untested = refl
 
 left-second : (d : Decision) → is_left (before_second_pass d) ≡ is_left d
 left-second Kept = refl
@@ -267,6 +284,8 @@ left-second Conflict = refl
 left-second (Weaker by) = refl
 left-second FirstPass = refl
 left-second SecondPass = refl
+left-second Beyond = refl
+left-second Untested = refl
 
 first-second : (d : Decision) → before_first_pass (before_second_pass d) ≡ before_first_pass d
 first-second Kept = refl
@@ -274,6 +293,8 @@ first-second Conflict = refl
 first-second (Weaker by) = refl
 first-second FirstPass = refl
 first-second SecondPass = refl
+first-second Beyond = refl
+first-second Untested = refl
 
 weaker-first : (d : Decision) (by : ℕ) → d ≡ Weaker by ↔ before_first_pass d ≡ Weaker by
 weaker-first Kept by = (λ e. cc, λ e. cc)
@@ -281,10 +302,13 @@ weaker-first Conflict by = (λ e. e, λ e. e)
 weaker-first (Weaker other) by = (λ e. e, λ e. e)
 weaker-first FirstPass by = (λ e. cc, λ e. cc)
 weaker-first SecondPass by = (λ e. cc, λ e. cc)
+weaker-first Beyond by = (λ e. e, λ e. e)
+weaker-first Untested by = (λ e. cc, λ e. cc)
 
-conflicts-move : (n : ℕ) (list : List Constraint) (ds es : List Decision) → length ds ≡ length list → length es ≡ length list → map is_consistent ds ≡ map is_consistent es → TellsConflicts n list es → TellsConflicts n list ds
-conflicts-move n list ds es md me same told =
-    forward_conflicts n list ds md (subst (λ (v : List Bool). IsForward (Conflicts n) Always list v (length list)) (sym same) (conflicts_forward n list es me told))
+conflicts-move : (n : ℕ) (list : List Constraint) (ds es : List Decision) → length ds ≡ length list → length es ≡ length list → AllByRecursion (λ (d : Decision). is_at_limit d ≡ false) ds
+    → AllByRecursion (λ (d : Decision). is_at_limit d ≡ false) es → map is_consistent ds ≡ map is_consistent es → TellsConflicts n list es → TellsConflicts n list ds
+conflicts-move n list ds es md me nd ne same told =
+    forward_conflicts n list ds md nd (subst (λ (v : List Bool). IsForward (Conflicts n) Always list v (length list)) (sym same) (conflicts_forward n list es me ne told))
 
 -- the decisions without the marks of the passes tell the same weaker ones
 weaker-move : (list : List Constraint) (ds es : List Decision) → length ds ≡ length list → length es ≡ length list → map before_first_pass ds ≡ es → TellsWeaker list es → TellsWeaker list ds
@@ -304,27 +328,53 @@ first_pass-move n list ds es md me strong left told =
     let has : get_or (map is_strongest es) place false ≡ true = ap (λ (l : List Bool). get_or l place false) (sym strong) ∙ q in
     rw left (first_pass_forward n list es me told place lt has))
 
+-- a limit gives none of the decisions that steps before have left so
+none-move : (f : Decision → Decision) (new old : List Decision) → map f new ≡ old → ((d : Decision) → is_at_limit (f d) ≡ false → (d ≡ Untested → ⊥) → is_at_limit d ≡ false)
+    → ((place : ℕ) → get_or new place Kept ≡ Untested → ⊥) → AllByRecursion (λ (d : Decision). is_at_limit d ≡ false) old → AllByRecursion (λ (d : Decision). is_at_limit d ≡ false) new
+none-move f [] old e g tested h = tt
+none-move f (d ∷ new) [] e g tested h = cc
+none-move f (d ∷ new) (o ∷ old) e g tested h =
+    let here : f d ≡ o = cc in
+    let rest : map f new ≡ old = cc in
+    (g d (ap is_at_limit here ∙ h.0) (tested 0), none-move f new old rest g (λ place. tested (suc place)) h.1)
+
+none-sifted : (d : Decision) → is_at_limit (as_sifted d) ≡ false → (d ≡ Untested → ⊥) → is_at_limit d ≡ false
+none-sifted Untested e u = absurd (u refl)
+none-sifted Beyond e u = e
+none-sifted d e u = refl
+
+none-first : (d : Decision) → is_at_limit (before_first_pass d) ≡ false → (d ≡ Untested → ⊥) → is_at_limit d ≡ false
+none-first Untested e u = absurd (u refl)
+none-first Beyond e u = e
+none-first d e u = refl
+
 -- ---- one step after the other
 
 module _ (n s : ℕ) (list : List Constraint) (ds0 ds1 : List Decision) (hs : IsSifted n [] list ds0) (hn : IsNarrow n s list) (hp : IsPruned list ds0 ds1) where
   pub many-0 : length ds0 ≡ length list
   many-0 = sifted-many n [] list ds0 hs
 
-  pub fixed-0 : map before_pruning ds0 ≡ ds0
+  pub fixed-0 : map as_sifted ds0 ≡ ds0
   fixed-0 = sifted-fixed n [] list ds0 hs
 
   pub many-1 : length ds1 ≡ length list
-  many-1 = sym (length-map ds1 before_pruning) ∙ (ap length hp.same ∙ many-0)
+  many-1 = sym (length-map ds1 as_sifted) ∙ (ap length hp.same ∙ many-0)
+
+  none-0 : AllByRecursion (λ (d : Decision). is_at_limit d ≡ false) ds0
+  none-0 = sifted-none n [] list ds0 hs
+
+  none-1 : AllByRecursion (λ (d : Decision). is_at_limit d ≡ false) ds1
+  none-1 = none-move as_sifted ds1 ds0 hp.same none-sifted (fixed-tested before_first_pass refl ds1 hp.later) none-0
 
   consistent-1 : map is_consistent ds1 ≡ map is_consistent ds0
-  consistent-1 = view_same before_pruning is_consistent ds1 ds0 consistent-pruning hp.same
+  consistent-1 = view_same as_sifted is_consistent ds1 ds0 consistent-pruning hp.same
 
   conflicts-1 : TellsConflicts n list ds1
-  conflicts-1 = conflicts-move n list ds1 ds0 many-1 many-0 consistent-1 (forward_conflicts n list ds0 many-0 (λ place lt q. sifted-forward n [] list ds0 hs place lt))
+  conflicts-1 = conflicts-move n list ds1 ds0 many-1 many-0 none-1 none-0 consistent-1 (forward_conflicts n list ds0 many-0 none-0 (λ place lt q. sifted-forward n [] list ds0 hs place lt))
 
   -- every reduction has the kept lists of the sift
   consistent-es : (es : List Decision) → IsReduced n list es → map is_consistent es ≡ map is_consistent ds1
-  consistent-es es he = consistent_same n list es ds1 he.as_many many-1 he.conflicts conflicts-1
+  consistent-es es he = consistent_same n list es ds1 he.as_many many-1 he.none_at_limit none-1 he.conflicts conflicts-1
 
   kept-es : (es : List Decision) → IsReduced n list es → those is_consistent list es ≡ kept_of list ds0
   kept-es es he = ap (λ (v : List Bool). marked v list) (consistent-es es he ∙ consistent-1) ∙ sifted-kept n [] list ds0 hs
@@ -367,10 +417,14 @@ module _ (n s : ℕ) (list : List Constraint) (ds0 ds1 : List Decision) (hs : Is
       first-3 : map before_first_pass ds3 ≡ ds1
       first-3 = view_same before_second_pass before_first_pass ds3 ds2 first-second hb.same ∙ hf.same
 
+      none-3 : AllByRecursion (λ (d : Decision). is_at_limit d ≡ false) ds3
+      none-3 = none-move before_first_pass ds3 ds1 first-3 none-first hb.tested none-1
+
       pub reduced : IsReduced n list ds3
       reduced = record {
         as_many = many-3;
-        conflicts = conflicts-move n list ds3 ds1 many-3 many-1 (view_same before_first_pass is_consistent ds3 ds1 consistent-first first-3) conflicts-1;
+        none_at_limit = none-3;
+        conflicts = conflicts-move n list ds3 ds1 many-3 many-1 none-3 none-1 (view_same before_first_pass is_consistent ds3 ds1 consistent-first first-3) conflicts-1;
         weaker = weaker-move list ds3 ds1 many-3 many-1 first-3 hp.weaker;
         first_pass = first_pass-move n list ds3 ds2 many-3 many-2 (view_same before_second_pass is_strongest ds3 ds2 strongest-second hb.same) (view_same before_second_pass is_left ds3 ds2 left-second hb.same) hf.first_pass;
         second_pass = hb.second_pass;

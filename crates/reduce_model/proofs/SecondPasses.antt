@@ -1,5 +1,5 @@
 -- The second pass that goes on by one candidate, from the last to the first.
-use Rattle.std.proofs.Common.{◌≡◌, ◌≢◌, ℕ, suc, ◌+◌, ◌-◌, ◌<◌, ◌≤◌, inl, inr, List, [], ◌∷◌, ◌++◌, Bool, true, false, length, map, take, drop, get_or, set, refl, sym, ap, subst, ◌∙◌, arith, add-one, append_assoc, drop-cons, length-append, length-drop, reverse, get_or-set_same, get_or-set_other}
+use Rattle.std.proofs.Common.{◌≡◌, ◌≢◌, ℕ, zero, suc, ◌+◌, ◌-◌, ◌<◌, ◌≤◌, inl, inr, List, [], ◌∷◌, ◌++◌, Bool, true, false, length, map, take, drop, get_or, set, refl, sym, ap, subst, ◌∙◌, arith, add-one, append_assoc, drop-cons, length-append, length-drop, reverse, get_or-set_same, get_or-set_other}
 use Rattle.std.specs.List.{All, AllByRecursion}
 use Rattle.std.proofs.lemmas.Bool.{cases_eq}
 use Rattle.std.proofs.lemmas.List.{drop-map, drop-set-lt, drop_all, get_or-map, length-map, length-set, length-take, length-take-le, map-set, reverse-append, take-append-drop, take-map, take-take}
@@ -17,7 +17,7 @@ use Rattle.reduce_model.specs.Deciding.{after, before, is_kept, is_left, marked,
 use Rattle.reduce_model.specs.Passes.{AreFirstWitnesses, IsFirstPrefix, IsNarrowList, IsPrefixOf, IsSecondPassed, IsSought, IsSoughtFrom, before_second_pass}
 use Rattle.reduce_model.specs.Reduction.{Breaks, TellsSecondPass}
 use Rattle.reduce_model.specs.declared.decision.Decision.{Decision}
-use Rattle.reduce_model.specs.declared.decision.Decision.TheVariants.{Kept, Conflict, Weaker, FirstPass, SecondPass}
+use Rattle.reduce_model.specs.declared.decision.Decision.TheVariants.{Kept, Conflict, Weaker, FirstPass, SecondPass, Beyond, Untested}
 use Rattle.reduce_model.specs.declared.grown.Sought.{Sought}
 use Rattle.reduce_model.specs.declared.prefixes.Prefix.{Prefix}
 
@@ -85,7 +85,19 @@ pub record IsPassingBack (n s : ℕ) (list : List Constraint) (old new : List De
   pub same : map before_second_pass new ≡ old
   pub backward : IsBackward (ImpliesWith n list (map is_left new)) (Has is_left new) list (map is_kept new) at
   pub fresh : (place : ℕ) → place < at → get_or new place Kept ≡ before_second_pass (get_or new place Kept)
+  pub tested : (place : ℕ) → get_or new place Kept ≡ Untested → ⊥
   pub narrow : AllByRecursion (IsNarrowList n s) (tests (left_before at list new) (drop at list) (drop at new))
+
+-- the witnesses that are found: those of the first that stay, before which the pass drops none
+pub record AreFound (n s : ℕ) (list : List Constraint) (new : List Decision) (at : ℕ) (ws : List (List ℕ)) : Type 0 where
+  pub witnesses : AreFirstWitnesses n s (left_before at list new) (those is_kept (drop at list) (drop at new)) ws
+  pub first : take (length ws) (those is_left (drop at list) (drop at new)) ≡ take (length ws) (those is_kept (drop at list) (drop at new))
+
+-- a view that has no untested one leaves none
+pub fixed-tested : (f : Decision → Decision) → f Untested ≡ Kept → (ds : List Decision) → map f ds ≡ ds → (place : ℕ) → get_or ds place Kept ≡ Untested → ⊥
+fixed-tested f k [] e place u = cc
+fixed-tested f k (d ∷ ds) e zero u = let here : f d ≡ d = cc in let no_ : Kept ≡ Untested = sym k ∙ (ap f (sym u) ∙ (here ∙ u)) in cc
+fixed-tested f k (d ∷ ds) e (suc place) u = let rest : map f ds ≡ ds = cc in fixed-tested f k ds rest place u
 
 pub back-none : (n s : ℕ) (list : List Constraint) (old : List Decision) (at : ℕ) → at ≡ length list → length old ≡ length list → map before_second_pass old ≡ old → IsPassingBack n s list old old at
 back-none n s list old at e many passed = record {
@@ -94,6 +106,7 @@ back-none n s list old at e many passed = record {
   same = passed;
   backward = λ place le lt q. absurd (omega arith);
   fresh = λ place lt. fixed-at before_second_pass old place (omega arith) passed;
+  tested = fixed-tested before_second_pass refl old passed;
   narrow = rw (drop_all at list (omega arith)) tt;
 }
 
@@ -103,6 +116,8 @@ left-passes Conflict = refl
 left-passes (Weaker by) = refl
 left-passes FirstPass = refl
 left-passes SecondPass = refl
+left-passes Beyond = refl
+left-passes Untested = refl
 
 kept-is-left : (d : Decision) → d ≡ before_second_pass d → is_kept d ≡ is_left d
 kept-is-left Kept e = refl
@@ -110,6 +125,8 @@ kept-is-left Conflict e = refl
 kept-is-left (Weaker by) e = refl
 kept-is-left FirstPass e = refl
 kept-is-left SecondPass e = cc
+kept-is-left Beyond e = refl
+kept-is-left Untested e = refl
 
 whole-tests : (all_ split_ from_ from_before joined earlier : List (List Constraint)) (one : List Constraint) → split_ ≡ all_ → split_ ≡ from_ ++ earlier → from_ ≡ from_before → from_before ≡ joined ++ one ∷ []
     → all_ ≡ joined ++ one ∷ earlier
@@ -140,20 +157,24 @@ module _ (n s : ℕ) (list : List Constraint) (old new : List Decision) (p : ℕ
           | inr ne ↦ h.backward place (omega arith) lt q
         ];
         fresh = λ place lt. h.fresh place (omega arith);
+        tested = h.tested;
         narrow = rw (tests-past (left_before p list new) list new p in_list in_new lacks_left) (rw same_list at h.narrow);
       }
 
-  pub found-on : (ws : List (List ℕ)) → is_kept (get_or new p Kept) ≡ false → AreFirstWitnesses n s (left_before (suc p) list new) (those is_kept (drop (suc p) list) (drop (suc p) new)) ws
-      → AreFirstWitnesses n s (left_before p list new) (those is_kept (drop p list) (drop p new)) ws
+  pub found-on : (ws : List (List ℕ)) → is_kept (get_or new p Kept) ≡ false → AreFound n s list new (suc p) ws → AreFound n s list new p ws
   found-on ws lacks found =
       let lacks_left : is_left (get_or new p Kept) ≡ false = sym (kept-is-left (get_or new p Kept) (h.fresh p (omega arith))) ∙ lacks in
       let same_list : left_before (suc p) list new ≡ left_before p list new = rw (← add-one) (before-lacks list (map is_left new) p (in_marks is_left) in_list (mark-of is_left ∙ lacks_left)) in
       let tail : those is_kept (drop p list) (drop p new) ≡ those is_kept (drop (suc p) list) (drop (suc p) new) = rw (drop-cons list p anything in_list, drop-cons new p Kept in_new, lacks) refl in
-      rw tail (rw same_list at found)
+      let tail_left : those is_left (drop p list) (drop p new) ≡ those is_left (drop (suc p) list) (drop (suc p) new) = rw (drop-cons list p anything in_list, drop-cons new p Kept in_new, lacks_left) refl in
+      record {
+        witnesses = rw tail (rw same_list at found.witnesses);
+        first = rw (tail, tail_left) found.first;
+      }
 
   module _ (kept : is_kept (get_or new p Kept) ≡ true) where
     is : get_or new p Kept ≡ Kept
-    is = is-kept (get_or new p Kept) kept
+    is = is-kept (get_or new p Kept) (h.tested p) kept
 
     has_left : is_left (get_or new p Kept) ≡ true
     has_left = ap is_left is
@@ -214,16 +235,19 @@ module _ (n s : ℕ) (list : List Constraint) (old new : List Decision) (p : ℕ
     -- ---- the witnesses that are found
 
     pub found-more : (ws : List (List ℕ)) (t : List ℕ) → IsLeastMember n (Breaks (before is_kept p list new ++ after is_kept p list new) (get_or list p anything)) t
-        → IsNarrowList n s (before is_kept p list new ++ after is_kept p list new) → AreFirstWitnesses n s (left_before (suc p) list new) (those is_kept (drop (suc p) list) (drop (suc p) new)) (reverse ws)
-        → AreFirstWitnesses n s (left_before p list new) (those is_kept (drop p list) (drop p new)) (reverse (ws ++ t ∷ []))
+        → IsNarrowList n s (before is_kept p list new ++ after is_kept p list new) → AreFound n s list new (suc p) (reverse ws) → AreFound n s list new p (reverse (ws ++ t ∷ []))
     found-more ws t least narrow found =
         let tail : List Constraint = those is_kept (drop (suc p) list) (drop (suc p) new) in
         let tested : before is_kept p list new ++ after is_kept p list new ≡ left_before p list new ++ tail = others ∙ ap (λ (l : List Constraint). left_before p list new ++ l) (sym those_after) in
         let here : those is_kept (drop p list) (drop p new) ≡ get_or list p anything ∷ tail = rw (drop-cons list p anything in_list, drop-cons new p Kept in_new, kept) refl in
-        let more : AreFirstWitnesses n s (left_before p list new ++ get_or list p anything ∷ []) tail (reverse ws) = rw longer at found in
+        let here_left : those is_left (drop p list) (drop p new) ≡ get_or list p anything ∷ those is_left (drop (suc p) list) (drop (suc p) new) = rw (drop-cons list p anything in_list, drop-cons new p Kept in_new, has_left) refl in
+        let more : AreFirstWitnesses n s (left_before p list new ++ get_or list p anything ∷ []) tail (reverse ws) = rw longer at found.witnesses in
         let least_ : IsLeastMember n (Breaks (left_before p list new ++ tail) (get_or list p anything)) t = rw tested at least in
         let narrow_ : IsNarrowList n s (left_before p list new ++ tail) = rw tested at narrow in
-        rw (here, reverse-append ws (t ∷ [])) ((least_, narrow_), more)
+        rw (reverse-append ws (t ∷ [])) (record {
+          witnesses = rw here ((least_, narrow_), more);
+          first = rw (here, here_left) (ap (λ (l : List Constraint). get_or list p anything ∷ l) found.first);
+        })
 
     -- one that the others don't imply stays
     pub back-found : (t : List ℕ) → IsLeastMember n (Breaks (before is_kept p list new ++ after is_kept p list new) (get_or list p anything)) t
@@ -243,6 +267,7 @@ module _ (n s : ℕ) (list : List Constraint) (old new : List Decision) (p : ℕ
             | inr ne ↦ h.backward place (omega arith) lt q
           ];
           fresh = λ place lt. h.fresh place (omega arith);
+          tested = h.tested;
           narrow = rw (tests-at (left_before p list new) list new p in_list in_new has_left)
               (all-append n s (tests (left_before p list new ++ get_or list p anything ∷ []) (drop (suc p) list) (drop (suc p) new)) ((left_before p list new ++ those is_kept (drop (suc p) list) (drop (suc p) new)) ∷ []) old_narrow (list_narrow, tt));
         }
@@ -291,6 +316,10 @@ module _ (n s : ℕ) (list : List Constraint) (old new : List Decision) (p : ℕ
               let ne : place ≢ p = omega arith in
               let same_ : get_or (set new p SecondPass) place Kept ≡ get_or new place Kept = get_or-set_other new p place SecondPass Kept ne in
               rw same_ (h.fresh place (omega arith));
+          tested = λ place u. elim (cases_eq place p) [
+            | inl e ↦ let there : get_or (set new p SecondPass) p Kept ≡ Untested = rw e at u in absurd (cc (there, written))
+            | inr ne ↦ h.tested place (sym (get_or-set_other new p place SecondPass Kept ne) ∙ u)
+          ];
           narrow = rw (left_after, tests-at (left_before p list new) list (set new p SecondPass) p in_list in_after left_written, tail) all_narrow;
         }
 
@@ -330,6 +359,7 @@ pub back-all : (n s : ℕ) (list : List Constraint) (old new : List Decision) �
 back-all n s list old new h = record {
   same = h.same;
   second_pass = backward_second_pass n list new h.as_many h.backward;
+  tested = h.tested;
   narrow = phase-narrow n s 3 (tests [] list new) h.narrow;
 }
 
@@ -341,15 +371,11 @@ back-step n s list old new at some h = let e : at ≡ suc (at - 1) = omega arith
 pub back-within : (n s : ℕ) (list : List Constraint) (old new : List Decision) (at : ℕ) → 0 < at → IsPassingBack n s list old new at → at - 1 < length list
 back-within n s list old new at some h = let le = h.at_most in omega (arith, le, some)
 
-pub found-end : (n s : ℕ) (list : List Constraint) (new : List Decision) (at : ℕ) (ws : List (List ℕ)) → at ≤ 0 → AreFirstWitnesses n s (left_before at list new) (those is_kept (drop at list) (drop at new)) ws
-    → AreFirstWitnesses n s [] (those is_kept list new) ws
+pub found-end : (n s : ℕ) (list : List Constraint) (new : List Decision) (at : ℕ) (ws : List (List ℕ)) → at ≤ 0 → AreFound n s list new at ws → AreFound n s list new 0 ws
 found-end n s list new at ws none found = let e : at ≡ 0 = omega arith in rw e at found
 
-pub found-step : (n s : ℕ) (list : List Constraint) (new : List Decision) (at : ℕ) (ws : List (List ℕ)) → 0 < at → AreFirstWitnesses n s (left_before at list new) (those is_kept (drop at list) (drop at new)) ws
-    → AreFirstWitnesses n s (left_before (suc (at - 1)) list new) (those is_kept (drop (suc (at - 1)) list) (drop (suc (at - 1)) new)) ws
-found-step n s list new at ws some found =
-    let e : at ≡ suc (at - 1) = omega arith in
-    subst (λ (k : ℕ). AreFirstWitnesses n s (left_before k list new) (those is_kept (drop k list) (drop k new)) ws) e found
+pub found-step : (n s : ℕ) (list : List Constraint) (new : List Decision) (at : ℕ) (ws : List (List ℕ)) → 0 < at → AreFound n s list new at ws → AreFound n s list new (suc (at - 1)) ws
+found-step n s list new at ws some found = let e : at ≡ suc (at - 1) = omega arith in subst (λ (k : ℕ). AreFound n s list new k ws) e found
 
 pub back-end : (n s : ℕ) (list : List Constraint) (old new : List Decision) (at : ℕ) → at ≤ 0 → IsPassingBack n s list old new at → IsSecondPassed n s list old new
 back-end n s list old new at none h = let e : at ≡ 0 = omega arith in back-all n s list old new (subst (λ (k : ℕ). IsPassingBack n s list old new k) e h)

@@ -4,21 +4,20 @@ use Rattle.std.specs.List.{AllByRecursion}
 use Rattle.std.proofs.lemmas.Bool.{cases_lt}
 use Rattle.std.proofs.lemmas.List.{append-nil, get_or_append_left, get_or_push, length-take-le, length_push, take-append-drop, take-append-le, take-take, take_all, take_more, take_rest}
 use Rattle.std.proofs.lemmas.Option.{slice_get-get_or}
-use Rattle.dfa_core.specs.Automaton.{IsEverything}
 use Rattle.dfa_core.specs.Languages.{HasNoMember, IsLeastMember}
 use Rattle.dfa_core.specs.Traces.{IsTrace}
 use Rattle.dfa_minimise.specs.Wide.{IsWide}
 use Rattle.template_core.specs.declared.constraint.Constraint.{Constraint}
-use Rattle.reduce_model.proofs.FirstPasses.{every-automaton, narrow-push, take-nil}
+use Rattle.reduce_model.proofs.FirstPasses.{narrow-push}
 use Rattle.reduce_model.proofs.Grows.{sought}
 use Rattle.reduce_model.proofs.Lists.{all-append, all_but-at, length-all_but, phase-first, phase-narrow}
 use Rattle.reduce_model.proofs.Marks.{anything}
 use Rattle.reduce_model.proofs.Members.{over-wide, wide-over}
-use Rattle.reduce_model.proofs.Sifts.{empty-narrow, keeps-push, push-keeps}
+use Rattle.reduce_model.proofs.Sifts.{keeps-push, push-keeps}
 use Rattle.reduce_model.specs.Building.{IsFirstOfWide, all_but_each, in_phase}
 use Rattle.reduce_model.specs.Joining.{AcceptsKept, Extends}
 use Rattle.reduce_model.specs.Keeping.{KeepsAll}
-use Rattle.reduce_model.specs.Passes.{AreFirstWitnesses, IsAutomatonOf, IsFirstPrefix, IsIrredundant, IsNarrowList, IsSought, IsSoughtFrom, IsWitnessed}
+use Rattle.reduce_model.specs.Passes.{AreFirstWitnesses, IsAutomatonOf, IsFirstPrefix, IsIrredundant, IsNarrowList, IsSought, IsSoughtFrom, IsStart, IsWitnessed}
 use Rattle.reduce_model.specs.Reduction.{AreWitnesses, Breaks}
 use Rattle.reduce_model.specs.declared.grown.Sought.{Sought}
 use Rattle.reduce_model.specs.declared.prefixes.Prefix.{Prefix}
@@ -97,7 +96,7 @@ witnessing-all n s model at witnesses e h =
 
 -- ---- those that are known
 
-known-few : (n s : ℕ) (before after : List Constraint) (ws : List (List ℕ)) → AreFirstWitnesses n s before after ws → length ws ≤ length after
+pub known-few : (n s : ℕ) (before after : List Constraint) (ws : List (List ℕ)) → AreFirstWitnesses n s before after ws → length ws ≤ length after
 known-few n s before after [] h = omega arith
 known-few n s before [] (w ∷ ws) h = absurd h
 known-few n s before (c ∷ after) (w ∷ ws) h = let ih = known-few n s (before ++ c ∷ []) after ws h.1 in omega (arith, ih)
@@ -118,12 +117,6 @@ known-least n s before (c ∷ after) (w ∷ ws) h (suc k) lt =
 
 -- ---- the constraints before a place
 
--- a list as a prefix of others
-pub record IsStart (n s : ℕ) (list : List Constraint) (prefix : Prefix) : Type 0 where
-  pub automaton : IsAutomatonOf n list prefix.dfa
-  pub counted : prefix.length ≡ length list
-  pub narrow : IsNarrowList n s list
-
 -- enough witnesses for the constraints before a place, and these constraints as a prefix
 pub record IsWitnessingAt (n s : ℕ) (model : List Constraint) (at : ℕ) (before : Prefix) (witnesses : List (List ℕ)) : Type 0 where
   pub enough : at ≤ length witnesses
@@ -131,22 +124,25 @@ pub record IsWitnessingAt (n s : ℕ) (model : List Constraint) (at : ℕ) (befo
   pub witnessing : IsWitnessing n s model (length witnesses) witnesses
   pub start : at < length model → IsStart n s (take at model) before
 
-pub witnessing-known : (n s : ℕ) (model : List Constraint) (before : Prefix) (ws : List (List ℕ)) → 1 ≤ s → AreFirstWitnesses n s [] model ws → IsEverything n before.dfa → before.length ≡ 0
-    → IsWitnessingAt n s model 0 before ws
-witnessing-known n s model before ws some known every none = record {
-  enough = omega arith;
+pub witnessing-known : (n s : ℕ) (model : List Constraint) (start : Prefix) (ws : List (List ℕ)) → AreFirstWitnesses n s [] model ws → IsStart n s (take start.length model) start → start.length ≤ length ws
+    → IsWitnessingAt n s model start.length start ws
+witnessing-known n s model start ws known begins enough = record {
+  enough = enough;
   few = known-few n s [] model ws known;
   witnessing = record {
     as_many = refl;
     least = known-least n s [] model ws known;
     narrow = known-narrow n s [] model ws known;
   };
-  start = λ lt. record {
-    automaton = every-automaton n before.dfa every;
-    counted = none;
-    narrow = λ size wide. empty-narrow n s some (rw (take-nil size) at wide);
-  };
+  start = λ lt. begins;
 }
+
+pub witnessing-whole : (n s : ℕ) (model : List Constraint) (ws : List (List ℕ)) → AreFirstWitnesses n s [] model ws → length ws ≡ length model → IsWitnessed n s model ws
+witnessing-whole n s model ws known many = witnessing-all n s model (length ws) ws many (record {
+  as_many = refl;
+  least = known-least n s [] model ws known;
+  narrow = known-narrow n s [] model ws known;
+})
 
 all-less : (n s : ℕ) (lists : List (List Constraint)) (less most : ℕ) → less ≤ most → AllByRecursion (IsNarrowList n s) (take most lists) → AllByRecursion (IsNarrowList n s) (take less lists)
 all-less n s lists zero most le h = tt

@@ -2,16 +2,18 @@
 use Rattle.std.specs.Prelude.{◌≡◌, ℕ, suc, List, [], ◌∷◌, Bool, true, false, Some, map, take, drop, slice_get}
 use Rattle.template_core.specs.declared.constraint.Constraint.{Constraint}
 use Rattle.reduce_model.specs.declared.decision.Decision.{Decision}
-use Rattle.reduce_model.specs.declared.decision.Decision.TheVariants.{Kept, Conflict, Weaker, SecondPass}
+use Rattle.reduce_model.specs.declared.decision.Decision.TheVariants.{Kept, Conflict, Weaker, SecondPass, Beyond, Untested}
 
 -- it is in the conflict-free model
 abbrev pub is_consistent : Decision → Bool
 is_consistent Conflict = false
+is_consistent Beyond = false
 is_consistent decision = true
 
 -- and no other constraint of that model is above it
 abbrev pub is_strongest : Decision → Bool
 is_strongest Conflict = false
+is_strongest Beyond = false
 is_strongest (Weaker by) = false
 is_strongest decision = true
 
@@ -19,12 +21,26 @@ is_strongest decision = true
 abbrev pub is_left : Decision → Bool
 is_left Kept = true
 is_left SecondPass = true
+is_left Untested = true
 is_left decision = false
 
 -- and the second pass leaves it
 abbrev pub is_kept : Decision → Bool
 is_kept Kept = true
+is_kept Untested = true
 is_kept decision = false
+
+-- a limit on states gives it in place of a refusal
+abbrev pub is_at_limit : Decision → Bool
+is_at_limit Beyond = true
+is_at_limit Untested = true
+is_at_limit decision = false
+
+-- the decision of the sift that it came of
+abbrev pub as_sifted : Decision → Decision
+as_sifted Conflict = Conflict
+as_sifted Beyond = Beyond
+as_sifted decision = Kept
 
 -- the constraints that have the mark
 abbrev pub marked : List Bool → List Constraint → List Constraint

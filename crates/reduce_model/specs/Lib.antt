@@ -5,3 +5,4 @@ pub mod Deciding
 pub mod Building
 pub mod Reduction
 pub mod Passes
+pub mod Within

@@ -1,6 +1,6 @@
 -- What each step of the reduction is given and what it makes of the decisions: internal to the crate.
 use Rattle.std.specs.List.{All as Every, HoldsAt}
-use Rattle.std.specs.Prelude.{◌≡◌, ◌↔◌, ℕ, suc, ◌+◌, ◌<◌, ◌≤◌, List, [], ◌∷◌, ◌++◌, Bool, Some, length, map, take, drop, slice_get, ⊤}
+use Rattle.std.specs.Prelude.{◌≡◌, ◌↔◌, ℕ, suc, ◌+◌, ◌<◌, ◌≤◌, List, [], ◌∷◌, ◌++◌, Bool, Option, None, Some, length, map, take, drop, get_or, slice_get, ⊤}
 use Rattle.decl_base.specs.declared.refusal.Refusal.{Refusal}
 use Rattle.decl_base.specs.declared.refusal.Refusal.TheVariants.{States, Memory}
 use Rattle.dfa_core.specs.Automaton.{Automaton, Accepts, state_count}
@@ -9,35 +9,33 @@ use Rattle.dfa_core.specs.Traces.{IsTrace}
 use Rattle.dfa_minimise.specs.Wide.{IsWide}
 use Rattle.template_core.specs.declared.constraint.Constraint.{Constraint}
 use Rattle.reduce_model.specs.Building.{AreNarrow, IsFirstOfWide, all_but_each, in_phase, tests, up_to_each}
-use Rattle.reduce_model.specs.Deciding.{is_left, is_strongest, marked, those}
+use Rattle.reduce_model.specs.Deciding.{as_sifted, is_left, is_strongest, marked, those}
 use Rattle.reduce_model.specs.Keeping.{KeepsAll, KeepsOne}
 use Rattle.reduce_model.specs.Reduction.{AreWitnesses, Breaks, IsReduction, TellsFirstPass, TellsSecondPass, TellsWeaker}
 use Rattle.reduce_model.specs.Sifting.{kept_of}
 use Rattle.reduce_model.specs.declared.decision.Decision.{Decision}
-use Rattle.reduce_model.specs.declared.decision.Decision.TheVariants.{Kept, Conflict, FirstPass, SecondPass}
+use Rattle.reduce_model.specs.declared.decision.Decision.TheVariants.{Kept, FirstPass, SecondPass, Untested}
 use Rattle.reduce_model.specs.declared.grown.Grown.{Grown}
 use Rattle.reduce_model.specs.declared.grown.Grown.TheVariants.{All, Wide}
 use Rattle.reduce_model.specs.declared.grown.Sought.{Sought}
 use Rattle.reduce_model.specs.declared.grown.Sought.TheVariants.{Found, Missing, TooWide}
 use Rattle.reduce_model.specs.declared.prefixes.Prefix.{Prefix}
 
--- a decision without the marks of pruning and of what comes after it, of the first pass and the second, of the second alone
-abbrev pub before_pruning : Decision → Decision
-before_pruning Conflict = Conflict
-before_pruning decision = Kept
-
+-- a decision without the marks of the first pass and of what comes after it, and without those of what comes after the first pass
 abbrev pub before_first_pass : Decision → Decision
 before_first_pass FirstPass = Kept
 before_first_pass SecondPass = Kept
+before_first_pass Untested = Kept
 before_first_pass decision = decision
 
 abbrev pub before_second_pass : Decision → Decision
 before_second_pass SecondPass = Kept
+before_second_pass Untested = Kept
 before_second_pass decision = decision
 
 -- what pruning makes of decisions
 pub record IsPruned (list : List Constraint) (old new : List Decision) : Type 0 where
-  pub same : map before_pruning new ≡ old
+  pub same : map as_sifted new ≡ old
   pub weaker : TellsWeaker list new
   pub later : map before_first_pass new ≡ new
 
@@ -59,6 +57,7 @@ RefusesFirstPass n s list old refusal = ⊥
 pub record IsSecondPassed (n s : ℕ) (list : List Constraint) (old new : List Decision) : Type 0 where
   pub same : map before_second_pass new ≡ old
   pub second_pass : TellsSecondPass n list new
+  pub tested : (place : ℕ) → get_or new place Kept ≡ Untested → ⊥
   pub narrow : AreNarrow n s (in_phase 3 (tests [] list new))
 
 abbrev pub RefusesSecondPass : ℕ → ℕ → List Constraint → List Decision → Refusal → Type 0
@@ -109,8 +108,13 @@ pub record IsWideFrom (s : ℕ) (a : Automaton) (list : List Constraint) (size :
   pub wide : IsWide a.symbols (AcceptsAll a (take size list)) s
   pub first : (less : ℕ) → 0 < less → less < size → IsWide a.symbols (AcceptsAll a (take less list)) s → ⊥
 
+-- what has grown, or what was at the start
+abbrev pub grown_from : {T : Type 0} → T → Option T → T
+grown_from start None = start
+grown_from start (Some grown) = grown
+
 abbrev pub IsGrown : ℕ → Automaton → List Constraint → Grown → Type 0
-IsGrown s a list (All grown) = IsGrownBy s a list grown
+IsGrown s a list (All grown) = IsGrownBy s a list (grown_from a grown)
 IsGrown s a list (Wide size) = IsWideFrom s a list size
 
 -- the list and its prefixes are narrow; or the prefix of this length is the first that is wide
@@ -140,6 +144,12 @@ pub record IsAutomatonOf (n : ℕ) (list : List Constraint) (a : Automaton) : Ty
   pub over : a.symbols ≡ n
   pub same : (w : List ℕ) → IsTrace n w → Accepts a w ↔ KeepsAll list w
   pub few : state_count a ≤ 65536
+
+-- a list as a prefix of others
+pub record IsStart (n s : ℕ) (list : List Constraint) (prefix : Prefix) : Type 0 where
+  pub automaton : IsAutomatonOf n list prefix.dfa
+  pub counted : prefix.length ≡ length list
+  pub narrow : IsNarrowList n s list
 
 -- the constraints before a place that have a mark, as an automaton: neither they nor fewer of them are wide for s
 pub record IsPrefixOf (n s : ℕ) (list : List Constraint) (marks : List Bool) (prefix : Prefix) : Type 0 where

@@ -1,12 +1,13 @@
 -- The reduction of a list of candidates: conflicts, weaker ones, and what the others imply.
-use Rattle.std.specs.Prelude.{◌≡◌, ◌↔◌, ℕ, ◌<◌, List, [], ◌∷◌, ◌++◌, Bool, true, IsTrue, Some, map, length, slice_get, ⊤}
+use Rattle.std.specs.Prelude.{◌≡◌, ◌↔◌, ℕ, ◌<◌, List, [], ◌∷◌, ◌++◌, Bool, true, false, IsTrue, Some, map, length, slice_get, ⊤}
+use Rattle.std.specs.List.{AllByRecursion}
 use Rattle.decl_base.specs.declared.refusal.Refusal.{Refusal}
 use Rattle.decl_base.specs.declared.refusal.Refusal.TheVariants.{States, Memory}
 use Rattle.dfa_core.specs.Languages.{HasNoMember, IsLeastMember}
 use Rattle.dfa_core.specs.Traces.{IsTrace}
 use Rattle.template_core.specs.declared.constraint.Constraint.{Constraint}
 use Rattle.reduce_model.specs.Building.{AreNarrow, IsFirstOfWide, built_lists}
-use Rattle.reduce_model.specs.Deciding.{IsAt, after, before, is_consistent, is_kept, is_left, is_strongest, those}
+use Rattle.reduce_model.specs.Deciding.{IsAt, after, before, is_at_limit, is_consistent, is_kept, is_left, is_strongest, those}
 use Rattle.template_set.specs.Hierarchy.{IsStronger}
 use Rattle.reduce_model.specs.Keeping.{KeepsAll, KeepsOne}
 use Rattle.reduce_model.specs.declared.decision.Decision.{Decision}
@@ -56,6 +57,7 @@ TellsSecondPass n list decisions =
 -- what each decision says of the candidate at its place
 pub record IsReduced (n : ℕ) (list : List Constraint) (decisions : List Decision) : Type 0 where
   pub as_many : length decisions ≡ length list
+  pub none_at_limit : AllByRecursion (λ (d : Decision). is_at_limit d ≡ false) decisions
   pub conflicts : TellsConflicts n list decisions
   pub weaker : TellsWeaker list decisions
   pub first_pass : TellsFirstPass n list decisions

@@ -16,6 +16,10 @@ pub enum Decision {
     FirstPass,
     /// All the others that stay imply it.
     SecondPass,
+    /// Some trace keeps it and all that were kept before it, and with them it tells more traces apart than the limit. `sift` and `reduce` don't give it.
+    Beyond,
+    /// It stays. The list that its second pass or its witness asks for tells more traces apart than the limit. `sift` and `reduce` don't give it.
+    Untested,
 }
 
 impl Decision {
@@ -25,14 +29,14 @@ impl Decision {
     pub(crate) fn is_consistent(&self) -> bool
         ensures { result ≡ consistent self.now }
     {
-        !matches!(self, Decision::Conflict)
+        !matches!(self, Decision::Conflict | Decision::Beyond)
     }
 
     /// Whether it still stands.
     pub(crate) fn is_kept(&self) -> bool
         ensures { result ≡ kept self.now }
     {
-        matches!(self, Decision::Kept)
+        matches!(self, Decision::Kept | Decision::Untested)
     }
 }
 

@@ -12,6 +12,7 @@ mod prefixes;
 mod pruning;
 mod reduction;
 mod second_pass;
+mod within;
 mod witnesses;
 
 pub use conflicts::sift;
@@ -21,6 +22,7 @@ pub use laws::{
     model_keeps_the_traces, reduction_is_determined, witnesses_break_one_each,
 };
 pub use reduction::reduce;
+pub use within::{reduce_within, sift_within};
 
 #[cfg(test)]
 mod tests;

@@ -44,3 +44,17 @@ pub(crate) fn longest_before(prefixes: &[Prefix], place: usize) -> usize
     }
     last
 }
+
+/// The last of the prefixes that have no more candidates than a number. The first has none.
+pub(crate) fn longest_within(prefixes: &[Prefix], most: u32) -> usize
+    requires some { 0 < length prefixes.now }
+    requires first { HoldsAt (λ (prefix : PrefixOf). prefix.length ≡ 0) prefixes.now 0 }
+    ensures within { result < length prefixes.now }
+    ensures short { HoldsAt (λ (prefix : PrefixOf). prefix.length ≤ most) prefixes.now result }
+{
+    let mut last = prefixes.len() - 1;
+    while prefixes[last].length > most {
+        last -= 1;
+    }
+    last
+}

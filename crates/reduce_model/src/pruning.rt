@@ -1,6 +1,6 @@
 ghost use Rattle.std.specs.Prelude.{◌≡◌, ◌≤◌, ℕ, length, map, MatchOption};
-ghost use Rattle.reduce_model.specs.Deciding.{is_consistent};
-ghost use Rattle.reduce_model.specs.Passes.{before_pruning, IsPruned};
+ghost use Rattle.reduce_model.specs.Deciding.{as_sifted, is_consistent};
+ghost use Rattle.reduce_model.specs.Passes.{IsPruned};
 ghost use Rattle.reduce_model.specs.Reduction.{IsAbove, IsFirstAbove};
 
 use crate::Decision;
@@ -11,7 +11,7 @@ use template_set::stronger;
 pub(crate) fn prune(list: &[Constraint], decisions: &mut [Decision])
     requires as_many { length decisions.old ≡ length list.now }
     requires few { length list.now ≤ 65536 }
-    requires sifted { map before_pruning decisions.old ≡ decisions.old }
+    requires sifted { map as_sifted decisions.old ≡ decisions.old }
     ensures { IsPruned list.now decisions.old decisions.new }
 {
     for place in 0..list.len() {

@@ -6,6 +6,7 @@ ghost use Rattle.reduce_model.specs.Sifting.{IsNarrow, IsSifted};
 
 use crate::first_pass::pass_first;
 use crate::others::push_kept;
+use crate::prefixes::longest_within;
 use crate::pruning::prune;
 use crate::second_pass::pass_second;
 use crate::witnesses::witnesses_of;
@@ -63,5 +64,6 @@ fn drop_implied(
     let found = pass_second(alloc, list, symbols, states, &prefixes, decisions)?;
     let mut model = Vec::new(alloc);
     push_kept(list, decisions, &mut model)?;
-    witnesses_of(alloc, &model, symbols, states, found)
+    let start = &prefixes[longest_within(&prefixes, found.len() as u32)];
+    witnesses_of(alloc, &model, symbols, states, start, found)
 }

@@ -30,6 +30,7 @@ pub(crate) fn pass_second(
     requires passed { map before_second_pass decisions.old ≡ decisions.old }
     ensures ok { IfOk result (λ found. IsSecondPassed symbols states list.now decisions.old decisions.new) }
     ensures found { IfOk result (λ found. AreFirstWitnesses symbols states [] (those is_kept list.now decisions.new) found.items) }
+    ensures first { IfOk result (λ found. take (length found.items) (those is_left list.now decisions.new) ≡ take (length found.items) (those is_kept list.now decisions.new)) }
     ensures err { IfErr result (RefusesSecondPass symbols states list.now decisions.old) }
 {
     let mut found = Vec::new(alloc);

@@ -1,5 +1,5 @@
 -- The automaton of AtMostOne accepts the traces that keep it.
-use Rattle.std.proofs.Common.{◌≡◌, ◌↔◌, ℕ, suc, ◌+◌, ◌-◌, ◌&&◌, length, sum_by, count_by, min, sym, arith, nat_lt, List, [], ◌∷◌, ◌++◌, Bool, true, false, cond, eqb, IsTrue, nat_eq, refl, ap, ◌∙◌}
+use Rattle.std.proofs.Common.{◌≡◌, ◌↔◌, ℕ, suc, ◌+◌, ◌-◌, ◌&&◌, length, sum_by, count_by, min, sym, arith, nat_lt, List, Bool, true, false, cond, eqb, IsTrue, nat_eq, ◌∙◌}
 use Rattle.template_core.proofs.Wholes.{whole_fulfilled}
 use Rattle.template_core.proofs.Traces.{count_by-not}
 use Rattle.template_core.specs.Counters.{occurrences}

@@ -1,3 +1,5 @@
+ghost use Rattle.std.specs.Prelude.{◌≡◌};
+
 use crate::{AtLeast, AtMost, AtMostOne, End, Exactly, Init, Participation};
 use template_core::{Constraint, Kind, keeps};
 

@@ -2,11 +2,12 @@ use Rattle.std.proofs.Common.{get_or, refl, ap, ◌+◌, ℕ}
 use Rattle.std.proofs.lemmas.List.{take_all, take_more}
 use Rattle.reduce_model.proofs.Grows.{growing-all, growing-more, growing-none, growing-wide}
 use Rattle.reduce_model.proofs.Marks.{anything}
+use Rattle.reduce_model.specs.Passes.{grown_from}
 use Rattle.reduce_model.proofs.grown.grow.Goals as goal
 
 pub loop-constraint-init : goal.loop-constraint-init
 loop-constraint-init c = record {
-  grows = growing-none c.args.states c.args.start.now c.args.list.now c.in_ok-dfa.dfa c.requires.few c.in_ok-dfa.ensures.ok;
+  grows = growing-none c.args.states c.args.start.now c.args.list.now c.requires.few;
   counted = refl;
 }
 
@@ -15,20 +16,20 @@ returns-in-None-clause-ok c =
     let at = c.loop-constraint.constraint-index in
     let list = c.args.list.now in
     rw c.loop-constraint.invariant.counted
-    (growing-wide c.args.states c.args.start.now list at c.loop-constraint.dfa (get_or list at anything) (take_more list at anything c.loop-constraint-test.true) c.loop-constraint-test.true c.loop-constraint.invariant.grows
-    (rw c.in-None.is at c.in_ok-more.ensures.ok))
+    (growing-wide c.args.states c.args.start.now list at (grown_from c.args.start.now c.loop-constraint.grown) (get_or list at anything) (take_more list at anything c.loop-constraint-test.true) c.loop-constraint-test.true c.loop-constraint.invariant.grows
+    (rw c.or_start.ensures at (rw c.in-None.is at c.in_ok-more.ensures.ok)))
 
 pub loop-constraint-preserved : goal.loop-constraint-preserved
 loop-constraint-preserved c =
     let at = c.loop-constraint.constraint-index in
     let list = c.args.list.now in
     record {
-      grows = growing-more c.args.states c.args.start.now list at c.loop-constraint.dfa c.in-Some.more (get_or list at anything) (take_more list at anything c.loop-constraint-test.true) c.requires.few_states
-          c.loop-constraint.invariant.grows (rw c.in-Some.is at c.in_ok-more.ensures.ok);
+      grows = growing-more c.args.states c.args.start.now list at (grown_from c.args.start.now c.loop-constraint.grown) c.in-Some.more (get_or list at anything) (take_more list at anything c.loop-constraint-test.true) c.requires.few_states
+          c.loop-constraint.invariant.grows (rw c.or_start.ensures at (rw c.in-Some.is at c.in_ok-more.ensures.ok));
       counted = ap (λ (k : ℕ). k + 1) c.loop-constraint.invariant.counted;
     }
 
 pub returns-clause-ok : goal.returns-clause-ok
 returns-clause-ok c =
     let at = c.loop-constraint.constraint-index in
-    growing-all c.args.states c.args.start.now c.args.list.now at c.loop-constraint.dfa (take_all at c.args.list.now c.loop-constraint-test.false) c.loop-constraint-test.false c.loop-constraint.invariant.grows
+    growing-all c.args.states c.args.start.now c.args.list.now at (grown_from c.args.start.now c.loop-constraint.grown) (take_all at c.args.list.now c.loop-constraint-test.false) c.loop-constraint-test.false c.loop-constraint.invariant.grows

@@ -42,27 +42,27 @@ push_kept-requires c =
 pub witnesses_of-requires-clause-made : goal.witnesses_of-requires-clause-made
 witnesses_of-requires-clause-made c =
     let made = all-marked (IsWellMadeFor c.args.symbols) (map is_kept c.pass_second.new.decisions) c.args.list.now c.requires.made in
-    rw (c.deref-2.ensures.value, c.in_ok-push_kept.ensures, c.new-model.ensures.items) made
+    rw (c.deref-3.ensures.value, c.in_ok-push_kept.ensures, c.new-model.ensures.items) made
 
 pub witnesses_of-requires-clause-few : goal.witnesses_of-requires-clause-few
 witnesses_of-requires-clause-few c =
     let le = length-marked (map is_kept c.pass_second.new.decisions) c.args.list.now in
-    rw (c.deref-2.ensures.value, c.in_ok-push_kept.ensures, c.new-model.ensures.items) (omega (arith, le, c.requires.few))
+    rw (c.deref-3.ensures.value, c.in_ok-push_kept.ensures, c.new-model.ensures.items) (omega (arith, le, c.requires.few))
 
 pub witnesses_of-requires-clause-irredundant : goal.witnesses_of-requires-clause-irredundant
 witnesses_of-requires-clause-irredundant c =
     let none = irredundant-3 c.args.symbols c.args.states c.args.list.now c.args.decisions.now c.prune.new.decisions c.requires.sifted c.requires.narrow c.prune.ensures c.pass_first.new.decisions c.in_ok-prefixes.ensures.ok
     c.pass_second.new.decisions c.in_ok-found.ensures.ok in
-    rw (c.deref-2.ensures.value, c.in_ok-push_kept.ensures, c.new-model.ensures.items) none
+    rw (c.deref-3.ensures.value, c.in_ok-push_kept.ensures, c.new-model.ensures.items) none
 
 pub witnesses_of-requires-clause-known : goal.witnesses_of-requires-clause-known
-witnesses_of-requires-clause-known c = rw (c.deref-2.ensures.value, c.in_ok-push_kept.ensures, c.new-model.ensures.items) c.in_ok-found.ensures.found
+witnesses_of-requires-clause-known c = rw (c.deref-3.ensures.value, c.in_ok-push_kept.ensures, c.new-model.ensures.items) c.in_ok-found.ensures.found
 
 pub returns-clause-ok : goal.returns-clause-ok
 returns-clause-ok c = IfOk-weaker c.witnesses_of.result _ _ (λ ws is.
     let n = c.args.symbols in
     let s = c.args.states in
-    let witnessed : IsWitnessed n s (those is_kept c.args.list.now c.pass_second.new.decisions) ws.items = rw (c.deref-2.ensures.value, c.in_ok-push_kept.ensures, c.new-model.ensures.items) at is in
+    let witnessed : IsWitnessed n s (those is_kept c.args.list.now c.pass_second.new.decisions) ws.items = rw (c.deref-3.ensures.value, c.in_ok-push_kept.ensures, c.new-model.ensures.items) at is in
     let many = many-3 n s c.args.list.now c.args.decisions.now c.prune.new.decisions c.requires.sifted c.requires.narrow c.prune.ensures c.pass_first.new.decisions c.in_ok-prefixes.ensures.ok c.pass_second.new.decisions
     c.in_ok-found.ensures.ok in
     let old = sifted-many n [] c.args.list.now c.args.decisions.now c.requires.sifted in
@@ -75,6 +75,6 @@ returns-clause-ok c = IfOk-weaker c.witnesses_of.result _ _ (λ ws is.
 pub returns-clause-err : goal.returns-clause-err
 returns-clause-err c = IfErr-weaker c.witnesses_of.result _ _ (λ e is.
     let refuses : RefusesWitnesses c.args.symbols c.args.states (those is_kept c.args.list.now c.pass_second.new.decisions) e =
-    rw (c.deref-2.ensures.value, c.in_ok-push_kept.ensures, c.new-model.ensures.items) at is in
+    rw (c.deref-3.ensures.value, c.in_ok-push_kept.ensures, c.new-model.ensures.items) at is in
     refused-4 c.args.symbols c.args.states c.args.list.now c.args.decisions.now c.prune.new.decisions c.requires.sifted c.requires.narrow c.prune.ensures c.pass_first.new.decisions c.in_ok-prefixes.ensures.ok
     c.pass_second.new.decisions c.in_ok-found.ensures.ok e refuses) c.witnesses_of.ensures.err

@@ -1,4 +1,4 @@
-use Rattle.std.proofs.Common.{◌≤◌, ◌-◌, get_or, map, reverse, sym, subst, ◌∙◌, arith}
+use Rattle.std.proofs.Common.{◌≤◌, ◌-◌, get_or, map, refl, reverse, sym, subst, ◌∙◌, arith}
 use Rattle.template_core.specs.Constraints.{IsWellMadeFor}
 use Rattle.reduce_model.proofs.Marks.{anything}
 use Rattle.reduce_model.proofs.SecondPasses.{all-from, back-end, back-found, back-length, back-missing, back-on, back-refused, back-sought, back-step, back-within, found-more, found-on, found-step}
@@ -73,7 +73,7 @@ loop-place-preserved-then-is_kept c =
           let sought = back-sought n s list old new (at - 1) within passing kept prefix le of (get_or list (at - 1) anything) Missing (rw (c.deref.ensures.value, c.in_ok-others.ensures) at (rw w.in-Missing.is at c.in_ok-trace.ensures.ok)) in
           rw (w.decisions-is, w.found-is, w.clear.ensures.items) (record {
             passing = back-missing n s list old new (at - 1) within passing kept sought.0 sought.1;
-            witnesses = tt;
+            witnesses = record { witnesses = tt; first = refl };
           })
     ]
 

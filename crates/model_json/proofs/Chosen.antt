@@ -1,12 +1,16 @@
 -- Two lists side by side, one more place at a time, and what is chosen of them.
-use Rattle.std.proofs.Common.{◌≡◌, ℕ, ◌+◌, ◌<◌, List, [], ◌∷◌, ◌++◌, Bool, true, false, cond, length, take, get_or, refl, sym, ap, ap₂, ◌∙◌, arith, length-take, append-nil}
+use Rattle.std.proofs.Common.{◌≡◌, ℕ, ◌+◌, ◌<◌, List, [], ◌∷◌, ◌++◌, Bool, true, false, cond, length, take, drop, get_or, count_by, map, refl, sym, ap, ap₂, ◌∙◌, arith, length-take, append-nil, drop-cons, true≢false, zero, suc, ◌≤◌, Option, None, Some}
 use Rattle.std.specs.Prelude.{All}
-use Rattle.std.proofs.lemmas.List.{take_more}
+use Rattle.template_core.proofs.Traces.{count_by-cons}
+use Rattle.template_core.specs.Events.{one_if}
+use Rattle.std.proofs.lemmas.List.{take_more, length-drop}
 use Rattle.std.proofs.lemmas.List.Elements.{filter-append, All-nil, All-cons, All-head, All-tail, All-filter, All-map}
 use Rattle.std.specs.List.{filter, zip}
 use Rattle.reduce_model.specs.declared.decision.Decision.{Decision}
 use Rattle.scoring.specs.declared.scored.Scored.{Scored}
-use Rattle.model_json.specs.Report.{is_kept, staying}
+use Rattle.reduce_model.specs.Deciding.{is_kept}
+use Rattle.reduce_model.specs.declared.decision.Decision.TheVariants.{Kept, Conflict, Weaker, FirstPass, SecondPass, Beyond, Untested}
+use Rattle.model_json.specs.Report.{is_tested, staying, with_witnesses}
 
 zip-append : {X Y : Type 0} (xs us : List X) (ys vs : List Y) → length xs ≡ length ys → zip (xs ++ us) (ys ++ vs) ≡ zip xs ys ++ zip us vs
 zip-append [] us [] vs h = refl
@@ -43,3 +47,91 @@ All-staying P list decisions h =
     let kept : Scored × Decision → Bool = λ q. is_kept q.1 in
     All-map P (λ (q : Scored × Decision). q.0) (filter kept (zip list decisions))
     (All-filter kept (λ q. P q.0) (zip list decisions) (All-zip P list decisions h))
+
+-- ---- what stays, with its witnesses
+
+module _ (s : Scored) (list : List Scored) (decisions : List Decision) where
+  with-tested : (d : Decision) (witness : List ℕ) (witnesses : List (List ℕ)) → is_tested d ≡ true
+      → with_witnesses (s ∷ list) (d ∷ decisions) (witness ∷ witnesses) ≡ (s, Some witness) ∷ with_witnesses list decisions witnesses
+  with-tested Kept witness witnesses kept = refl
+  with-tested d witness witnesses kept = absurd (true≢false (sym kept))
+
+  with-untested : (d : Decision) (witnesses : List (List ℕ)) → is_tested d ≡ false → is_kept d ≡ true
+      → with_witnesses (s ∷ list) (d ∷ decisions) witnesses ≡ (s, None) ∷ with_witnesses list decisions witnesses
+  with-untested Untested witnesses kept stays = refl
+  with-untested Kept witnesses kept stays = absurd (true≢false kept)
+  with-untested d witnesses kept stays = absurd (true≢false (sym stays))
+
+  with-dropped : (d : Decision) (witnesses : List (List ℕ)) → is_kept d ≡ false → with_witnesses (s ∷ list) (d ∷ decisions) witnesses ≡ with_witnesses list decisions witnesses
+  with-dropped Kept witnesses out = absurd (true≢false out)
+  with-dropped Untested witnesses out = absurd (true≢false out)
+  with-dropped d witnesses out = refl
+
+-- what is to come from a place on, and that there are as many witnesses for it
+abbrev pub rest_of : List Scored → List Decision → List (List ℕ) → ℕ → ℕ → List (Scored × Option (List ℕ))
+rest_of list decisions witnesses i next = with_witnesses (drop i list) (drop i decisions) (drop next witnesses)
+
+abbrev pub AreLeft : List Decision → List (List ℕ) → ℕ → ℕ → Type 0
+AreLeft decisions witnesses i next = length (drop next witnesses) ≡ count_by is_tested (drop i decisions)
+
+drop-past : {X : Type 0} (i : ℕ) (xs : List X) → length xs ≤ i → drop i xs ≡ []
+drop-past zero [] le = refl
+drop-past zero (x ∷ xs) le = absurd (omega arith)
+drop-past (suc i) [] le = refl
+drop-past (suc i) (x ∷ xs) le = drop-past i xs (omega arith)
+
+pub rest-none : (list : List Scored) (decisions : List Decision) (witnesses : List (List ℕ)) (i next : ℕ) → length list ≤ i → rest_of list decisions witnesses i next ≡ []
+rest-none list decisions witnesses i next le = ap (λ l. with_witnesses l (drop i decisions) (drop next witnesses)) (drop-past i list le)
+
+module _ (list : List Scored) (decisions : List Decision) (witnesses : List (List ℕ)) (i next : ℕ) (s : Scored) (d : Decision)
+    (many : length decisions ≡ length list) (inside : i < length list) (s_is : s ≡ get_or list i s) (d_is : d ≡ get_or decisions i d) (left : AreLeft decisions witnesses i next) where
+  rest_list : drop i list ≡ s ∷ drop (i + 1) list
+  rest_list = drop-cons list i s inside ∙ ap (λ x. x ∷ drop (suc i) list) (sym s_is) ∙ ap (λ n. s ∷ drop n list) {x = suc i} {y = i + 1} (omega arith)
+
+  rest_decisions : drop i decisions ≡ d ∷ drop (i + 1) decisions
+  rest_decisions = drop-cons decisions i d (omega (arith, many)) ∙ ap (λ x. x ∷ drop (suc i) decisions) (sym d_is) ∙ ap (λ n. d ∷ drop n decisions) {x = suc i} {y = i + 1} (omega arith)
+
+  here : (ws : List (List ℕ)) → with_witnesses (drop i list) (drop i decisions) ws ≡ with_witnesses (s ∷ drop (i + 1) list) (d ∷ drop (i + 1) decisions) ws
+  here ws = ap₂ (λ xs ds. with_witnesses xs ds ws) rest_list rest_decisions
+
+  counted : length (drop next witnesses) ≡ count_by is_tested (d ∷ drop (i + 1) decisions)
+  counted = left ∙ ap (count_by is_tested) rest_decisions
+
+  pub some_left : is_tested d ≡ true → next < length witnesses
+  some_left tested = omega (arith, counted, count_by-cons is_tested d (drop (i + 1) decisions), ap one_if tested, length-drop next witnesses)
+
+  module _ (witness : List ℕ) (is : witness ≡ get_or witnesses next witness) (tested : is_tested d ≡ true) where
+    rest_witnesses : drop next witnesses ≡ witness ∷ drop (next + 1) witnesses
+    rest_witnesses = drop-cons witnesses next witness (some_left tested) ∙ ap (λ x. x ∷ drop (suc next) witnesses) (sym is) ∙ ap (λ n. witness ∷ drop n witnesses) {x = suc next} {y = next + 1} (omega arith)
+
+    pub rest-tested : rest_of list decisions witnesses i next ≡ (s, Some witness) ∷ rest_of list decisions witnesses (i + 1) (next + 1)
+    rest-tested =
+        here (drop next witnesses) ∙ ap (with_witnesses (s ∷ drop (i + 1) list) (d ∷ drop (i + 1) decisions)) rest_witnesses
+        ∙ with-tested s (drop (i + 1) list) (drop (i + 1) decisions) d witness (drop (next + 1) witnesses) tested
+
+    pub left-tested : AreLeft decisions witnesses (i + 1) (next + 1)
+    left-tested = omega (arith, counted, ap length rest_witnesses, count_by-cons is_tested d (drop (i + 1) decisions), ap one_if tested)
+
+  module _ (untested : is_tested d ≡ false) where
+    pub rest-untested : is_kept d ≡ true → rest_of list decisions witnesses i next ≡ (s, None) ∷ rest_of list decisions witnesses (i + 1) next
+    rest-untested stays = here (drop next witnesses) ∙ with-untested s (drop (i + 1) list) (drop (i + 1) decisions) d (drop next witnesses) untested stays
+
+    pub rest-dropped : is_kept d ≡ false → rest_of list decisions witnesses i next ≡ rest_of list decisions witnesses (i + 1) next
+    rest-dropped out = here (drop next witnesses) ∙ with-dropped s (drop (i + 1) list) (drop (i + 1) decisions) d (drop next witnesses) out
+
+    pub left-untested : AreLeft decisions witnesses (i + 1) next
+    left-untested = omega (arith, counted, count_by-cons is_tested d (drop (i + 1) decisions), ap one_if untested)
+
+pub All-unmap : {X Y : Type 0} (P : Y → Type 0) (f : X → Y) (xs : List X) → All P (map f xs) → All (λ x. P (f x)) xs
+All-unmap P f [] all = All-nil (λ x. P (f x))
+All-unmap P f (x ∷ xs) all = All-cons (λ x. P (f x)) x xs (All-head P (f x) (map f xs) all) (All-unmap P f xs (All-tail P (f x) (map f xs) all))
+
+-- with their witnesses or without, the same constraints stay
+pub stay-same : (list : List Scored) (decisions : List Decision) (witnesses : List (List ℕ)) → length witnesses ≡ count_by is_tested decisions → map (λ p. p.0.constraint) (with_witnesses list decisions witnesses) ≡ map (λ s. s.constraint) (staying list decisions)
+stay-same [] [] witnesses many = refl
+stay-same [] (d ∷ decisions) witnesses many = refl
+stay-same (s ∷ list) [] witnesses many = refl
+stay-same (s ∷ list) (Kept ∷ decisions) [] many = absurd (omega (arith, many, count_by-cons is_tested Kept decisions))
+stay-same (s ∷ list) (Kept ∷ decisions) (w ∷ witnesses) many = ap (λ l. s.constraint ∷ l) (stay-same list decisions witnesses (omega (arith, many, count_by-cons is_tested Kept decisions)))
+stay-same (s ∷ list) (Untested ∷ decisions) witnesses many = ap (λ l. s.constraint ∷ l) (stay-same list decisions witnesses (omega (arith, many, count_by-cons is_tested Untested decisions)))
+stay-same (s ∷ list) (d ∷ decisions) witnesses many = stay-same list decisions witnesses (omega (arith, many, count_by-cons is_tested d decisions))

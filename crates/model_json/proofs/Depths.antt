@@ -1,16 +1,18 @@
 -- A report nests a few levels only.
-use Rattle.std.proofs.Common.{ℕ, ◌≤◌, List, [], ◌∷◌, map, codes, not, arith}
+use Rattle.std.proofs.Common.{ℕ, ◌≤◌, List, [], ◌∷◌, map, codes, not, true, Option, None, Some, arith}
 use Rattle.std.specs.Prelude.{slice_get, unwrap_or}
-use Rattle.std.specs.List.{zip}
-use Rattle.serde_json.specs.Data.{Data, Members, string, member, no_members, depth, items_depth, members_depth}
+use Rattle.serde_json.specs.Data.{Data, Members, boolean, string, member, no_members, depth, items_depth, members_depth}
 use Rattle.serde_json.specs.Read.{max_depth}
 use Rattle.serde_json.specs.View.{items_of}
 use Rattle.scoring.specs.declared.scored.Scored.{Scored}
 use Rattle.template_core.specs.declared.constraint.Constraint.{Constraint}
+use Rattle.template_core.specs.declared.repertoire.Repertoire.{Repertoire}
+use Rattle.template_core.specs.declared.repertoire.Repertoire.TheVariants.{First, Second}
 use Rattle.reduce_model.specs.Sifting.{Sifting}
 use Rattle.reduce_model.specs.declared.decision.Decision.{Decision}
-use Rattle.reduce_model.specs.declared.decision.Decision.TheVariants.{Kept, Conflict, Weaker, FirstPass, SecondPass}
-use Rattle.model_json.specs.Report.{activities_of, parameter_value, parameters_value, constraint_value, scored_members, scored_value, witnessed_value, trace_value, decided_value, why, decided, is_kept, staying, dropped_values, report_object, scores_report, consistent_report, model_report, name_at}
+use Rattle.reduce_model.specs.declared.decision.Decision.TheVariants.{Kept, Conflict, Weaker, FirstPass, SecondPass, Beyond, Untested}
+use Rattle.reduce_model.specs.Deciding.{is_kept}
+use Rattle.model_json.specs.Report.{activities_of, parameter_value, parameters_value, constraint_value, scored_members, scored_value, witnessed_value, trace_value, decided_value, why, decided, staying, with_witnesses, untested_value, listed_value, dropped_values, report_object, scores_report, consistent_report, model_report, name_at, versioned}
 
 items : {A : Type 0} (f : A → Data) (n : ℕ) → ((x : A) → depth (f x) ≤ n) → (xs : List A) → items_depth (items_of (map f xs)) ≤ n
 items f n shallow [] = omega arith
@@ -36,6 +38,13 @@ witnessed_depth : (names : List (List ℕ)) (s : Scored) (witness : List ℕ) �
 witnessed_depth names s witness =
     omega (arith, scored names s (member (codes "witness") (trace_value names witness) no_members) (omega (arith, trace names witness)))
 
+untested_depth : (names : List (List ℕ)) (s : Scored) → depth (untested_value names s) ≤ 3
+untested_depth names s = omega (arith, scored names s (member (codes "untested") (boolean true) no_members) (omega arith))
+
+listed_depth : (names : List (List ℕ)) (s : Scored) (witness : Option (List ℕ)) → depth (listed_value names s witness) ≤ 3
+listed_depth names s (Some witness) = witnessed_depth names s witness
+listed_depth names s None = untested_depth names s
+
 constraint : (names : List (List ℕ)) (c : Constraint) → depth (constraint_value names c) ≤ 3
 constraint names c = omega (arith, parameters names c)
 
@@ -45,31 +54,42 @@ decided_depth names list s Conflict = omega (arith, scored names s (why (codes "
 decided_depth names list s (Weaker by) = omega (arith, constraint names (unwrap_or (slice_get list by) s).constraint, scored names s (why (codes "weaker")) (omega arith))
 decided_depth names list s FirstPass = omega (arith, scored names s (why (codes "first-pass")) (omega arith))
 decided_depth names list s SecondPass = omega (arith, scored names s (why (codes "second-pass")) (omega arith))
+decided_depth names list s Beyond = omega (arith, scored names s (why (codes "beyond")) (omega arith))
+decided_depth names list s Untested = omega (arith, untested_depth names s)
 
-pub depth-scores_report : (names : List (List ℕ)) (list : List Scored) (traces events : ℕ) → depth (scores_report names list traces events) ≤ max_depth
-depth-scores_report names list traces events = omega (arith, items (scored_value names) 3 (scored_depth names) list, tasks names)
+-- a version is no deeper
+of_version : (repertoire : Repertoire) (report : Repertoire → Data) → depth (report First) ≤ max_depth → depth (report Second) ≤ max_depth → depth (report repertoire) ≤ max_depth
+of_version First report first second = first
+of_version Second report first second = second
+
+pub depth-scores_report : (names : List (List ℕ)) (repertoire : Repertoire) (list : List Scored) (traces events : ℕ) → depth (scores_report names repertoire list traces events) ≤ max_depth
+depth-scores_report names repertoire list traces events =
+    let kept = items (scored_value names) 3 (scored_depth names) list in
+    of_version repertoire (λ repertoire. scores_report names repertoire list traces events) (omega (arith, kept, tasks names)) (omega (arith, kept, tasks names))
 
 -- of the stages that drop constraints
-report : (constraints dropped : List Data) (names : List (List ℕ)) (example : List ℕ) (traces events : ℕ) → items_depth (items_of constraints) ≤ 3 → items_depth (items_of dropped) ≤ 4
-    → depth (report_object constraints dropped events (trace_value names example) (map string names) traces) ≤ max_depth
-report constraints dropped names example traces events kept out = omega (arith, kept, out, trace names example, tasks names)
+report : (repertoire : Repertoire) (constraints dropped : List Data) (names : List (List ℕ)) (example : List ℕ) (traces events : ℕ) → items_depth (items_of constraints) ≤ 3 → items_depth (items_of dropped) ≤ 4
+    → depth (versioned repertoire (report_object constraints dropped events (trace_value names example) (map string names) traces)) ≤ max_depth
+report repertoire constraints dropped names example traces events kept out =
+    of_version repertoire (λ repertoire. versioned repertoire (report_object constraints dropped events (trace_value names example) (map string names) traces))
+    (omega (arith, kept, out, trace names example, tasks names)) (omega (arith, kept, out, trace names example, tasks names))
 
 dropped : (names : List (List ℕ)) (list : List Scored) (decisions : List Decision) → items_depth (items_of (dropped_values names list decisions)) ≤ 4
 dropped names list decisions =
     let value : Scored × Decision → Data = λ p. decided_value names list p.0 p.1 in
     items value 4 (λ p. decided_depth names list p.0 p.1) (decided (λ d. not (is_kept d)) list decisions)
 
-pub depth-consistent_report : (names : List (List ℕ)) (list : List Scored) (sifting : Sifting) (traces events : ℕ)
-    → depth (consistent_report names list sifting traces events) ≤ max_depth
-depth-consistent_report names list sifting traces events =
+pub depth-consistent_report : (names : List (List ℕ)) (repertoire : Repertoire) (list : List Scored) (sifting : Sifting) (traces events : ℕ)
+    → depth (consistent_report names repertoire list sifting traces events) ≤ max_depth
+depth-consistent_report names repertoire list sifting traces events =
     let kept = staying list sifting.decisions in
-    report (map (scored_value names) kept) (dropped_values names list sifting.decisions) names sifting.example traces events
+    report repertoire (map (scored_value names) kept) (dropped_values names list sifting.decisions) names sifting.example traces events
     (items (scored_value names) 3 (scored_depth names) kept) (dropped names list sifting.decisions)
 
-pub depth-model_report : (names : List (List ℕ)) (list : List Scored) (decisions : List Decision) (witnesses : List (List ℕ)) (example : List ℕ) (traces events : ℕ)
-    → depth (model_report names list decisions witnesses example traces events) ≤ max_depth
-depth-model_report names list decisions witnesses example traces events =
-    let value : Scored × List ℕ → Data = λ p. witnessed_value names p.0 p.1 in
-    let kept = zip (staying list decisions) witnesses in
-    report (map value kept) (dropped_values names list decisions) names example traces events
-    (items value 3 (λ p. witnessed_depth names p.0 p.1) kept) (dropped names list decisions)
+pub depth-model_report : (names : List (List ℕ)) (repertoire : Repertoire) (list : List Scored) (decisions : List Decision) (witnesses : List (List ℕ)) (example : List ℕ) (traces events : ℕ)
+    → depth (model_report names repertoire list decisions witnesses example traces events) ≤ max_depth
+depth-model_report names repertoire list decisions witnesses example traces events =
+    let value : Scored × Option (List ℕ) → Data = λ p. listed_value names p.0 p.1 in
+    let kept = with_witnesses list decisions witnesses in
+    report repertoire (map value kept) (dropped_values names list decisions) names example traces events
+    (items value 3 (λ p. listed_depth names p.0 p.1) kept) (dropped names list decisions)

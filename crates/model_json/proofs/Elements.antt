@@ -6,7 +6,8 @@ use Rattle.serde_json.specs.Data.{Data, Items}
 use Rattle.serde_json.specs.Find.{as_array, as_str, get}
 use Rattle.serde_json.specs.View.{items_of, items_view, view}
 use Rattle.serde_json.specs.declared.value.Value.{Value}
-use Rattle.model_json.specs.Model.{Item, Shape, each, has_version, item_of, list_in, shape_of, tasks_in, texts_in, values_of}
+use Rattle.template_core.specs.declared.repertoire.Repertoire.{Repertoire}
+use Rattle.model_json.specs.Model.{Item, Shape, each, item_of, list_in, repertoire_of, shape_of, tasks_in, texts_in, values_of}
 
 pub values_of-items_of : (ds : List Data) → values_of (items_of ds) ≡ ds
 values_of-items_of [] = refl
@@ -113,14 +114,13 @@ item_of-is value named given template elements has_template is_text has_paramete
 pub listed : {elements items : List Value} {array : Option Items} → elements ≡ items → Some (items_view items) ≡ array → Some (items_view elements) ≡ array
 listed is h = ap (λ l. Some (items_view l)) is ∙ h
 
-abbrev shape : List Data → List (List ℕ) → Shape
-shape constraints tasks = record { constraints = constraints; tasks = tasks }
+abbrev pub shape : List Data → List (List ℕ) → Repertoire → Shape
+shape constraints tasks repertoire = record { constraints = constraints; tasks = tasks; repertoire = repertoire }
 
--- the shape of a value by its members
-pub shape_of-is : (value list : Data) (elements : List Value) (tasks : List (List ℕ)) → Some list ≡ get (codes "constraints") value → Some (items_view elements) ≡ as_array list
-    → tasks_in value ≡ Some tasks → true ≡ has_version value → shape_of value ≡ Some (record { constraints = map view elements; tasks = tasks })
-shape_of-is value list elements tasks has_constraints is_list are_tasks versioned =
-    ap (option_and_then (λ constraints. option_and_then (λ tasks. cond (has_version value) (Some (shape constraints tasks)) None) (tasks_in value)))
-    (ap (option_and_then list_in) (sym has_constraints) ∙ list_in-is list elements is_list)
-    ∙ ap (option_and_then (λ tasks. cond (has_version value) (Some (shape (map view elements) tasks)) None)) are_tasks
-    ∙ ap (λ b. cond b (Some (shape (map view elements) tasks)) None) (sym versioned)
+-- the shape of a value by its parts
+pub shape_of-is : (value : Data) (constraints : List Data) (tasks : List (List ℕ)) (repertoire : Repertoire) → option_and_then list_in (get (codes "constraints") value) ≡ Some constraints
+    → tasks_in value ≡ Some tasks → repertoire_of value ≡ Some repertoire → shape_of value ≡ Some (shape constraints tasks repertoire)
+shape_of-is value constraints tasks repertoire are_constraints are_tasks is_repertoire =
+    ap (option_and_then (λ constraints. option_and_then (λ tasks. option_map (shape constraints tasks) (repertoire_of value)) (tasks_in value))) are_constraints
+    ∙ ap (option_and_then (λ tasks. option_map (shape constraints tasks) (repertoire_of value))) are_tasks
+    ∙ ap (option_map (shape constraints tasks)) is_repertoire

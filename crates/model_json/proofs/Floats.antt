@@ -1,15 +1,17 @@
 -- A report has no float, so its text is known.
-use Rattle.std.proofs.Common.{◌≡◌, ℕ, List, [], ◌∷◌, false, ◌||◌, map, codes, not, refl, ap, ap₂, ◌∙◌}
-use Rattle.std.specs.List.{zip}
-use Rattle.serde_json.specs.Data.{Data, Members, string, member, no_members}
+use Rattle.std.proofs.Common.{◌≡◌, ℕ, List, [], ◌∷◌, false, ◌||◌, map, codes, not, true, Option, None, Some, refl, ap, ap₂, ◌∙◌}
+use Rattle.serde_json.specs.Data.{Data, Members, boolean, string, member, no_members}
 use Rattle.serde_json.specs.View.{items_of}
 use Rattle.serde_json.specs.Written.{has_float, items_have_float, members_have_float}
 use Rattle.scoring.specs.declared.scored.Scored.{Scored}
 use Rattle.template_core.specs.declared.constraint.Constraint.{Constraint}
+use Rattle.template_core.specs.declared.repertoire.Repertoire.{Repertoire}
+use Rattle.template_core.specs.declared.repertoire.Repertoire.TheVariants.{First, Second}
 use Rattle.reduce_model.specs.Sifting.{Sifting}
 use Rattle.reduce_model.specs.declared.decision.Decision.{Decision}
-use Rattle.reduce_model.specs.declared.decision.Decision.TheVariants.{Kept, Conflict, Weaker, FirstPass, SecondPass}
-use Rattle.model_json.specs.Report.{activities_of, parameter_value, parameters_value, constraint_value, scored_members, scored_value, witnessed_value, trace_value, decided_value, why, decided, is_kept, staying, dropped_values, report_object, scores_report, consistent_report, model_report, name_at}
+use Rattle.reduce_model.specs.declared.decision.Decision.TheVariants.{Kept, Conflict, Weaker, FirstPass, SecondPass, Beyond, Untested}
+use Rattle.reduce_model.specs.Deciding.{is_kept}
+use Rattle.model_json.specs.Report.{activities_of, parameter_value, parameters_value, constraint_value, scored_members, scored_value, witnessed_value, trace_value, decided_value, why, decided, staying, with_witnesses, untested_value, listed_value, dropped_values, report_object, scores_report, consistent_report, model_report, name_at, versioned}
 
 pub items_have_float-map : {A : Type 0} (f : A → Data) → ((x : A) → has_float (f x) ≡ false) → (xs : List A) → items_have_float (items_of (map f xs)) ≡ false
 items_have_float-map f none [] = refl
@@ -34,6 +36,13 @@ has_float-scored_value names s = scored names s no_members refl
 has_float-witnessed_value : (names : List (List ℕ)) (s : Scored) (witness : List ℕ) → has_float (witnessed_value names s witness) ≡ false
 has_float-witnessed_value names s witness = scored names s (member (codes "witness") (trace_value names witness) no_members) (ap (λ b. b || false) (trace names witness))
 
+has_float-untested_value : (names : List (List ℕ)) (s : Scored) → has_float (untested_value names s) ≡ false
+has_float-untested_value names s = scored names s (member (codes "untested") (boolean true) no_members) refl
+
+has_float-listed_value : (names : List (List ℕ)) (s : Scored) (witness : Option (List ℕ)) → has_float (listed_value names s witness) ≡ false
+has_float-listed_value names s (Some witness) = has_float-witnessed_value names s witness
+has_float-listed_value names s None = has_float-untested_value names s
+
 constraint : (names : List (List ℕ)) (c : Constraint) → has_float (constraint_value names c) ≡ false
 constraint names c = ap (λ b. b || false) (parameters names c)
 
@@ -43,34 +52,43 @@ has_float-decided_value names list s Conflict = scored names s (why (codes "conf
 has_float-decided_value names list s (Weaker by) = ap₂ (λ a b. a || b) (constraint names _) (scored names s (why (codes "weaker")) refl)
 has_float-decided_value names list s FirstPass = scored names s (why (codes "first-pass")) refl
 has_float-decided_value names list s SecondPass = scored names s (why (codes "second-pass")) refl
+has_float-decided_value names list s Beyond = scored names s (why (codes "beyond")) refl
+has_float-decided_value names list s Untested = has_float-untested_value names s
 
-pub has_float-scores_report : (names : List (List ℕ)) (list : List Scored) (traces events : ℕ) → has_float (scores_report names list traces events) ≡ false
-has_float-scores_report names list traces events =
-    ap₂ (λ a b. a || (b || false)) (items_have_float-map (scored_value names) (has_float-scored_value names) list) (tasks names)
+-- nor is a version a float
+of_version : (repertoire : Repertoire) (report : Repertoire → Data) → has_float (report First) ≡ false → has_float (report Second) ≡ false → has_float (report repertoire) ≡ false
+of_version First report first second = first
+of_version Second report first second = second
+
+pub has_float-scores_report : (names : List (List ℕ)) (repertoire : Repertoire) (list : List Scored) (traces events : ℕ) → has_float (scores_report names repertoire list traces events) ≡ false
+has_float-scores_report names repertoire list traces events =
+    let none = ap₂ (λ a b. a || (b || false)) (items_have_float-map (scored_value names) (has_float-scored_value names) list) (tasks names) in
+    of_version repertoire (λ repertoire. scores_report names repertoire list traces events) none none
 
 -- of the stages that drop constraints
-report : (constraints dropped : List Data) (names : List (List ℕ)) (example : List ℕ) (traces events : ℕ) → items_have_float (items_of constraints) ≡ false
-    → items_have_float (items_of dropped) ≡ false → has_float (report_object constraints dropped events (trace_value names example) (map string names) traces) ≡ false
-report constraints dropped names example traces events kept out =
-    ap₂ (λ a b. a || (b || (has_float (trace_value names example) || (items_have_float (items_of (map string names)) || false)))) kept out
-    ∙ ap₂ (λ a b. a || (b || false)) (trace names example) (tasks names)
+report : (repertoire : Repertoire) (constraints dropped : List Data) (names : List (List ℕ)) (example : List ℕ) (traces events : ℕ) → items_have_float (items_of constraints) ≡ false
+    → items_have_float (items_of dropped) ≡ false → has_float (versioned repertoire (report_object constraints dropped events (trace_value names example) (map string names) traces)) ≡ false
+report repertoire constraints dropped names example traces events kept out =
+    let none = ap₂ (λ a b. a || (b || (has_float (trace_value names example) || (items_have_float (items_of (map string names)) || false)))) kept out
+    ∙ ap₂ (λ a b. a || (b || false)) (trace names example) (tasks names) in
+    of_version repertoire (λ repertoire. versioned repertoire (report_object constraints dropped events (trace_value names example) (map string names) traces)) none none
 
 dropped : (names : List (List ℕ)) (list : List Scored) (decisions : List Decision) → items_have_float (items_of (dropped_values names list decisions)) ≡ false
 dropped names list decisions =
     let value : Scored × Decision → Data = λ p. decided_value names list p.0 p.1 in
     items_have_float-map value (λ p. has_float-decided_value names list p.0 p.1) (decided (λ d. not (is_kept d)) list decisions)
 
-pub has_float-consistent_report : (names : List (List ℕ)) (list : List Scored) (sifting : Sifting) (traces events : ℕ)
-    → has_float (consistent_report names list sifting traces events) ≡ false
-has_float-consistent_report names list sifting traces events =
+pub has_float-consistent_report : (names : List (List ℕ)) (repertoire : Repertoire) (list : List Scored) (sifting : Sifting) (traces events : ℕ)
+    → has_float (consistent_report names repertoire list sifting traces events) ≡ false
+has_float-consistent_report names repertoire list sifting traces events =
     let kept = staying list sifting.decisions in
-    report (map (scored_value names) kept) (dropped_values names list sifting.decisions) names sifting.example traces events
+    report repertoire (map (scored_value names) kept) (dropped_values names list sifting.decisions) names sifting.example traces events
     (items_have_float-map (scored_value names) (has_float-scored_value names) kept) (dropped names list sifting.decisions)
 
-pub has_float-model_report : (names : List (List ℕ)) (list : List Scored) (decisions : List Decision) (witnesses : List (List ℕ)) (example : List ℕ) (traces events : ℕ)
-    → has_float (model_report names list decisions witnesses example traces events) ≡ false
-has_float-model_report names list decisions witnesses example traces events =
-    let value : Scored × List ℕ → Data = λ p. witnessed_value names p.0 p.1 in
-    let kept = zip (staying list decisions) witnesses in
-    report (map value kept) (dropped_values names list decisions) names example traces events
-    (items_have_float-map value (λ p. has_float-witnessed_value names p.0 p.1) kept) (dropped names list decisions)
+pub has_float-model_report : (names : List (List ℕ)) (repertoire : Repertoire) (list : List Scored) (decisions : List Decision) (witnesses : List (List ℕ)) (example : List ℕ) (traces events : ℕ)
+    → has_float (model_report names repertoire list decisions witnesses example traces events) ≡ false
+has_float-model_report names repertoire list decisions witnesses example traces events =
+    let value : Scored × Option (List ℕ) → Data = λ p. listed_value names p.0 p.1 in
+    let kept = with_witnesses list decisions witnesses in
+    report repertoire (map value kept) (dropped_values names list decisions) names example traces events
+    (items_have_float-map value (λ p. has_float-listed_value names p.0 p.1) kept) (dropped names list decisions)

@@ -12,6 +12,7 @@ use Rattle.decl_base.specs.declared.refusal.Refusal.{Refusal}
 use Rattle.decl_base.specs.declared.refusal.Refusal.TheVariants.{Activities}
 use Rattle.event_log.specs.Logs.{first_seen, has_name, with_name}
 use Rattle.template_core.specs.declared.constraint.Constraint.{Constraint}
+use Rattle.template_core.specs.declared.repertoire.Repertoire.{Repertoire}
 use Rattle.model_json.specs.Model.{item_read, items_read, within}
 use Rattle.model_json.proofs.Causes.{goes_on, stops}
 use Rattle.model_json.proofs.ItemsRead.{one_too_many}
@@ -52,18 +53,18 @@ tasks_over tasks i x name names inside is text so_far full new =
 
 -- ---- items
 
-module _ (items : List Value) (i : ℕ) (x : Value) (names : List (List ℕ)) (constraints : List Constraint) (inside : i < length items) (is : x ≡ get_or items i x) where
-  here : items_read (i + 1) (record { names = names; constraints = constraints }) (map view (drop i items))
-      ≡ items_read (i + 1) (record { names = names; constraints = constraints }) (view x ∷ map view (drop (suc i) items))
-  here = ap (λ l. items_read (i + 1) (record { names = names; constraints = constraints }) (map view l)) (drop-cons items i x inside ∙ ap (λ e. e ∷ drop (suc i) items) (sym is))
+module _ (repertoire : Repertoire) (items : List Value) (i : ℕ) (x : Value) (names : List (List ℕ)) (constraints : List Constraint) (inside : i < length items) (is : x ≡ get_or items i x) where
+  here : items_read repertoire (i + 1) (record { names = names; constraints = constraints }) (map view (drop i items))
+      ≡ items_read repertoire (i + 1) (record { names = names; constraints = constraints }) (view x ∷ map view (drop (suc i) items))
+  here = ap (λ l. items_read repertoire (i + 1) (record { names = names; constraints = constraints }) (map view l)) (drop-cons items i x inside ∙ ap (λ e. e ∷ drop (suc i) items) (sym is))
 
-  pub items_on : (next : Constraint) (more : List (List ℕ)) → item_read (i + 1) names (view x) ≡ Ok (next, more)
-      → items_read (i + 1) (record { names = names; constraints = constraints }) (map view (drop i items))
-      ≡ items_read ((i + 1) + 1) (record { names = more; constraints = constraints ++ next ∷ [] }) (map view (drop (i + 1) items))
+  pub items_on : (next : Constraint) (more : List (List ℕ)) → item_read repertoire (i + 1) names (view x) ≡ Ok (next, more)
+      → items_read repertoire (i + 1) (record { names = names; constraints = constraints }) (map view (drop i items))
+      ≡ items_read repertoire ((i + 1) + 1) (record { names = more; constraints = constraints ++ next ∷ [] }) (map view (drop (i + 1) items))
   items_on next more read =
       here ∙ goes_on _ _ (next, more) read
-      ∙ ap (λ n. items_read ((i + 1) + 1) (record { names = more; constraints = constraints ++ next ∷ [] }) (map view (drop n items))) {x = suc i} {y = i + 1} (omega arith)
+      ∙ ap (λ n. items_read repertoire ((i + 1) + 1) (record { names = more; constraints = constraints ++ next ∷ [] }) (map view (drop n items))) {x = suc i} {y = i + 1} (omega arith)
 
-  pub items_stop : (r : Refusal) → item_read (i + 1) names (view x) ≡ Err r
-      → items_read (i + 1) (record { names = names; constraints = constraints }) (map view (drop i items)) ≡ Err r
+  pub items_stop : (r : Refusal) → item_read repertoire (i + 1) names (view x) ≡ Err r
+      → items_read repertoire (i + 1) (record { names = names; constraints = constraints }) (map view (drop i items)) ≡ Err r
   items_stop r refused = here ∙ stops _ _ r refused

@@ -1,6 +1,7 @@
 -- An item is read rule by rule.
 use Rattle.std.proofs.Common.{◌≡◌, ◌≢◌, ℕ, ◌≤◌, ◌<◌, ◌&&◌, subst, List, [], ◌∷◌, Bool, true, false, cond, eqb, fold, length, refl, sym, ap, ap₂, ◌∙◌, None, Some, Ok, Err, arith, ◌⊎◌, inl, inr}
-use Rattle.std.specs.Prelude.{nat_le}
+use Rattle.std.specs.Prelude.{nat_le, All, map}
+use Rattle.std.proofs.lemmas.List.Elements.{All-nil, All-cons, All-head, All-tail, All-weaker}
 use Rattle.std.specs.List.{find}
 use Rattle.std.specs.Option.{ok_or}
 use Rattle.std.specs.Str.{bytes_eq}
@@ -12,71 +13,75 @@ use Rattle.decl_base.specs.declared.refusal.Refusal.{Refusal}
 use Rattle.decl_base.specs.declared.refusal.Refusal.TheVariants.{ModelShape, UnknownTemplate, Parameters, SameParameter, Activities}
 use Rattle.event_log.specs.Logs.{with_name, has_name, place_of}
 use Rattle.event_log.proofs.Appearing.{place-with_name, place_of-keeps, place_of-put, seen-least, with_name-known, with_name-new}
-use Rattle.template_core.specs.Constraints.{arity}
+use Rattle.template_core.specs.Constraints.{arity, IsTemplate}
+use Rattle.template_core.specs.Groups.{group_of, activities_of}
+use Rattle.template_core.specs.Repertoires.{is_of}
 use Rattle.template_core.specs.declared.constraint.Constraint.{Constraint}
+use Rattle.template_core.specs.declared.group.Group.{Group}
+use Rattle.template_core.specs.declared.group.Group.TheVariants.{Existence, Relation, Mutual, Negative}
 use Rattle.template_core.specs.declared.kind.Kind.{Kind}
-use Rattle.template_core.specs.declared.kind.Kind.TheVariants.{Init, End, Participation, AtMostOne, ChainSuccession, AlternateSuccession, Succession, CoExistence, ChainResponse, AlternateResponse, Response, ChainPrecedence, AlternatePrecedence, Precedence, RespondedExistence, NotCoExistence, NotSuccession, NotChainSuccession}
+use Rattle.template_core.specs.declared.repertoire.Repertoire.{Repertoire}
+use Rattle.template_core.specs.declared.repertoire.Repertoire.TheVariants.{First, Second}
+use Rattle.template_set.proofs.EachKind.{all_templates, each_kind}
 use Rattle.template_set.specs.Names.{all_kinds, name_of}
 use Rattle.model_json.specs.Model.{Item, item_of, item_read, kind_named, activities_in, activities, is_twice, put_in, within}
 use Rattle.model_json.proofs.Causes.{goes_on, stops}
 
 -- ---- names of templates
 
-find-none : {A : Type 0} (p : A → Bool) → ((x : A) → p x ≡ false) → (xs : List A) → find p xs ≡ None
-find-none p none [] = refl
-find-none p none (x ∷ xs) = ap (λ b. cond b (Some x) (find p xs)) (none x) ∙ find-none p none xs
+find-none : {A : Type 0} (p : A → Bool) (xs : List A) → All (λ x. p x ≡ false) xs → find p xs ≡ None
+find-none p [] none = refl
+find-none p (x ∷ xs) none =
+    ap (λ b. cond b (Some x) (find p xs)) (All-head (λ x. p x ≡ false) x xs none) ∙ find-none p xs (All-tail (λ x. p x ≡ false) x xs none)
 
-pub named-none : (text : List ℕ) → ((kind : Kind) → text ≢ name_of kind) → kind_named text ≡ None
-named-none text other = find-none (λ kind. bytes_eq text (name_of kind)) (λ kind. apart kind (bytes_eq text (name_of kind)) refl) all_kinds
+found : {A : Type 0} (P : A → Type 0) (p : A → Bool) (xs : List A) (x : A) → All P xs → find p xs ≡ Some x → P x
+found P p [] x all is = absurd (cc)
+found P p (y ∷ xs) x all is = go (p y) (found P p xs x (All-tail P y xs all)) is
   where
-    apart : (kind : Kind) (b : Bool) → bytes_eq text (name_of kind) ≡ b → b ≡ false
-    apart kind true e = absurd (other kind ((bytes_decides text (name_of kind)).0 e))
-    apart kind false e = refl
+    go : (b : Bool) → (find p xs ≡ Some x → P x) → cond b (Some y) (find p xs) ≡ Some x → P x
+    go true rest is = let same : y ≡ x = cc in subst P same (All-head P y xs all)
+    go false rest is = rest is
 
-own : (kind : Kind) → kind_named (name_of kind) ≡ Some kind
-own Init = refl
-own End = refl
-own Participation = refl
-own AtMostOne = refl
-own ChainSuccession = refl
-own AlternateSuccession = refl
-own Succession = refl
-own CoExistence = refl
-own ChainResponse = refl
-own AlternateResponse = refl
-own Response = refl
-own ChainPrecedence = refl
-own AlternatePrecedence = refl
-own Precedence = refl
-own RespondedExistence = refl
-own NotCoExistence = refl
-own NotSuccession = refl
-own NotChainSuccession = refl
+pub named-none : (repertoire : Repertoire) (text : List ℕ) → ((kind : Kind) → IsTemplate kind → text ≢ name_of kind) → kind_named repertoire text ≡ None
+named-none repertoire text other =
+    find-none (λ kind. is_of repertoire kind && bytes_eq text (name_of kind)) all_kinds (All-weaker IsTemplate (λ kind. (is_of repertoire kind && bytes_eq text (name_of kind)) ≡ false) apart all_kinds all_templates)
+  where
+    apart : (kind : Kind) → IsTemplate kind → (is_of repertoire kind && bytes_eq text (name_of kind)) ≡ false
+    apart kind known = go (is_of repertoire kind) (bytes_eq text (name_of kind)) refl
+      where
+        go : (v b : Bool) → bytes_eq text (name_of kind) ≡ b → (v && b) ≡ false
+        go true true e = absurd (other kind known ((bytes_decides text (name_of kind)).0 e))
+        go true false e = refl
+        go false b e = refl
 
-pub named-some : (text : List ℕ) (kind : Kind) → text ≡ name_of kind → kind_named text ≡ Some kind
-named-some text kind h = ap kind_named h ∙ own kind
+-- each template's own name, by computing
+abbrev OwnName : Repertoire → Kind → Type 0
+OwnName repertoire kind = kind_named repertoire (name_of kind) ≡ cond (is_of repertoire kind) (Some kind) None
+
+maps_same : {X Y : Type 0} (f g : X → Y) (xs : List X) → map f xs ≡ map g xs → All (λ x. f x ≡ g x) xs
+maps_same f g [] same = All-nil (λ x. f x ≡ g x)
+maps_same f g (x ∷ xs) same = let first : f x ≡ g x = cc in All-cons (λ x. f x ≡ g x) x xs first (maps_same f g xs (cc))
+
+own : (repertoire : Repertoire) (kind : Kind) → IsTemplate kind → OwnName repertoire kind
+own First = each_kind (OwnName First) (maps_same (λ kind. kind_named First (name_of kind)) (λ kind. cond (is_of First kind) (Some kind) None) all_kinds refl)
+own Second = each_kind (OwnName Second) (maps_same (λ kind. kind_named Second (name_of kind)) (λ kind. cond (is_of Second kind) (Some kind) None) all_kinds refl)
+
+pub named-own : (repertoire : Repertoire) (text : List ℕ) (kind : Kind) → IsTemplate kind → text ≡ name_of kind → kind_named repertoire text ≡ cond (is_of repertoire kind) (Some kind) None
+named-own repertoire text kind known h = ap (kind_named repertoire) h ∙ own repertoire kind known
+
+pub named-template : (repertoire : Repertoire) (text : List ℕ) (kind : Kind) → kind_named repertoire text ≡ Some kind → IsTemplate kind
+named-template repertoire text kind is = found IsTemplate (λ kind. is_of repertoire kind && bytes_eq text (name_of kind)) all_kinds kind all_templates is
 
 -- ---- activities
 
 pub one_or_two : (kind : Kind) → (arity kind ≡ 1) ⊎ (arity kind ≡ 2)
-one_or_two Init = inl refl
-one_or_two End = inl refl
-one_or_two Participation = inl refl
-one_or_two AtMostOne = inl refl
-one_or_two ChainSuccession = inr refl
-one_or_two AlternateSuccession = inr refl
-one_or_two Succession = inr refl
-one_or_two CoExistence = inr refl
-one_or_two ChainResponse = inr refl
-one_or_two AlternateResponse = inr refl
-one_or_two Response = inr refl
-one_or_two ChainPrecedence = inr refl
-one_or_two AlternatePrecedence = inr refl
-one_or_two Precedence = inr refl
-one_or_two RespondedExistence = inr refl
-one_or_two NotCoExistence = inr refl
-one_or_two NotSuccession = inr refl
-one_or_two NotChainSuccession = inr refl
+one_or_two kind = by_group (group_of kind)
+  where
+    by_group : (group : Group) → (activities_of group ≡ 1) ⊎ (activities_of group ≡ 2)
+    by_group Existence = inl refl
+    by_group (Relation activation) = inr refl
+    by_group Mutual = inr refl
+    by_group Negative = inr refl
 
 -- ---- names within the limit
 
@@ -98,29 +103,29 @@ one_too_many names more name full new =
 
 -- ---- the rules, one after another
 
-module _ (number : ℕ) (names : List (List ℕ)) (value : Data) where
-  pub read-no_shape : item_of value ≡ None → item_read number names value ≡ Err (ModelShape number)
+module _ (repertoire : Repertoire) (number : ℕ) (names : List (List ℕ)) (value : Data) where
+  pub read-no_shape : item_of value ≡ None → item_read repertoire number names value ≡ Err (ModelShape number)
   read-no_shape h = stops _ _ (ModelShape number) (ap (λ o. ok_or o (ModelShape number)) h)
 
   module _ (texts : Item) (shape : item_of value ≡ Some texts) where
     shaped : ok_or (item_of value) (ModelShape number) ≡ Ok texts
     shaped = ap (λ o. ok_or o (ModelShape number)) shape
 
-    pub read-unknown : kind_named texts.template ≡ None → item_read number names value ≡ Err (UnknownTemplate number)
+    pub read-unknown : kind_named repertoire texts.template ≡ None → item_read repertoire number names value ≡ Err (UnknownTemplate number)
     read-unknown h = goes_on _ _ texts shaped ∙ stops _ _ (UnknownTemplate number) (ap (λ o. ok_or o (UnknownTemplate number)) h)
 
-    module _ (kind : Kind) (known : kind_named texts.template ≡ Some kind) where
-      of_kind : ok_or (kind_named texts.template) (UnknownTemplate number) ≡ Ok kind
+    module _ (kind : Kind) (known : kind_named repertoire texts.template ≡ Some kind) where
+      of_kind : ok_or (kind_named repertoire texts.template) (UnknownTemplate number) ≡ Ok kind
       of_kind = ap (λ o. ok_or o (UnknownTemplate number)) known
 
-      pub read-parameters : activities_in kind texts.parameters ≡ None → item_read number names value ≡ Err (Parameters number)
+      pub read-parameters : activities_in kind texts.parameters ≡ None → item_read repertoire number names value ≡ Err (Parameters number)
       read-parameters h = goes_on _ _ texts shaped ∙ goes_on _ _ kind of_kind ∙ stops _ _ (Parameters number) (ap (λ o. ok_or o (Parameters number)) h)
 
       module _ (put : List (List ℕ)) (given : activities_in kind texts.parameters ≡ Some put) where
         activated : ok_or (activities_in kind texts.parameters) (Parameters number) ≡ Ok put
         activated = ap (λ o. ok_or o (Parameters number)) given
 
-        pub read-twice : is_twice put ≡ true → item_read number names value ≡ Err (SameParameter number)
+        pub read-twice : is_twice put ≡ true → item_read repertoire number names value ≡ Err (SameParameter number)
         read-twice h =
             goes_on _ _ texts shaped ∙ goes_on _ _ kind of_kind ∙ goes_on _ _ put activated
             ∙ stops _ _ (SameParameter number) (ap (λ b. cond b (Err (SameParameter number)) (Ok put)) h)
@@ -129,11 +134,11 @@ module _ (number : ℕ) (names : List (List ℕ)) (value : Data) where
           different : cond (is_twice put) (Err (SameParameter number)) (Ok put) ≡ Ok put
           different = ap (λ b. cond b (Err (SameParameter number)) (Ok put)) differ
 
-          pub read-many : (r : Refusal) → within (fold with_name names put) ≡ Err r → item_read number names value ≡ Err r
+          pub read-many : (r : Refusal) → within (fold with_name names put) ≡ Err r → item_read repertoire number names value ≡ Err r
           read-many r h =
               goes_on _ _ texts shaped ∙ goes_on _ _ kind of_kind ∙ goes_on _ _ put activated ∙ goes_on _ _ put different ∙ stops _ _ r h
 
-          pub read-constraint : (more : List (List ℕ)) → within (fold with_name names put) ≡ Ok more → item_read number names value ≡ Ok (put_in kind more put, more)
+          pub read-constraint : (more : List (List ℕ)) → within (fold with_name names put) ≡ Ok more → item_read repertoire number names value ≡ Ok (put_in kind more put, more)
           read-constraint more h =
               goes_on _ _ texts shaped ∙ goes_on _ _ kind of_kind ∙ goes_on _ _ put activated ∙ goes_on _ _ put different ∙ goes_on _ _ more h
 

@@ -34,5 +34,5 @@ module _ (value : Data) where
       model-names r h = goes_on _ _ shape of_shape ∙ goes_on _ _ shape.constraints counted ∙ stops _ _ r h
 
       pub model-items : (names : List (List ℕ)) → within (first_seen shape.tasks) ≡ Ok names
-          → model_of value ≡ items_read 1 (record { names = names; constraints = [] }) shape.constraints
+          → model_of value ≡ items_read shape.repertoire 1 (record { names = names; constraints = [] }) shape.constraints
       model-items names h = goes_on _ _ shape of_shape ∙ goes_on _ _ shape.constraints counted ∙ goes_on _ _ names h

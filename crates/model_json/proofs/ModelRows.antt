@@ -3,7 +3,7 @@ use Rattle.std.proofs.Common.{◌≡◌, [], ◌∷◌, codes, refl, Ok, Err}
 use Rattle.std.specs.Str.{is_utf8, chars}
 use Rattle.serde_json.proofs.OnLiterals.{serde_json_on_literals}
 use Rattle.decl_base.specs.declared.refusal.Refusal.TheVariants.{NotJson, ModelShape, UnknownTemplate, Parameters, SameParameter}
-use Rattle.template_core.specs.declared.kind.Kind.TheVariants.{Response, Init}
+use Rattle.template_core.specs.declared.kind.Kind.TheVariants.{Response, Init, Exactly}
 use Rattle.model_json.specs.Model.{model_of_bytes}
 
 response : model_of_bytes (codes "{\"constraints\":[{\"template\":\"Response\",\"parameters\":[[\"a\"],[\"b\"]],\"support\":0.98}]}")
@@ -45,6 +45,15 @@ tasks_first : model_of_bytes (codes "{\"tasks\":[\"b\",\"b\"],\"version\":2.0,\"
 unfolding serde_json_on_literals is_utf8 chars
 tasks_first = refl
 
-another_version : model_of_bytes (codes "{\"version\":2,\"constraints\":[]}") ≡ Err (ModelShape 0)
+counted : model_of_bytes (codes "{\"version\":2,\"constraints\":[{\"template\":\"Exactly2\",\"parameters\":[[\"a\"]]}]}")
+    ≡ Ok (record { names = codes "a" ∷ []; constraints = record { kind = Exactly 2; first = 0; second = 0 } ∷ [] })
+unfolding serde_json_on_literals is_utf8 chars
+counted = refl
+
+counted_in_the_first : model_of_bytes (codes "{\"constraints\":[{\"template\":\"Exactly2\",\"parameters\":[[\"a\"]]}]}") ≡ Err (UnknownTemplate 1)
+unfolding serde_json_on_literals is_utf8 chars
+counted_in_the_first = refl
+
+another_version : model_of_bytes (codes "{\"version\":3,\"constraints\":[]}") ≡ Err (ModelShape 0)
 unfolding serde_json_on_literals is_utf8 chars
 another_version = refl

@@ -13,16 +13,18 @@ use Rattle.serde_json.specs.Data.{Data}
 use Rattle.decl_base.specs.Limits.{standard}
 use Rattle.decl_base.specs.declared.refusal.Refusal.{Refusal}
 use Rattle.decl_base.specs.declared.refusal.Refusal.TheVariants.{NotJson, ModelShape, Candidates, UnknownTemplate, Parameters, SameParameter, Activities}
-use Rattle.event_log.specs.Logs.{first_seen, with_name, place_of}
+use Rattle.event_log.specs.Logs.{first_seen, with_name, place_of, StandOnce}
 use Rattle.event_log.proofs.Appearing.{first_seen-once, place-with_name, place_of-keeps, place_of-put, seen-least, with_name-keeps, with_name-least}
-use Rattle.template_core.specs.Constraints.{arity, IsWellMadeIn, IsWellMadeFor}
+use Rattle.template_core.proofs.Made.{made-from}
+use Rattle.template_core.specs.Constraints.{arity, IsTemplate, IsWellMadeIn, IsWellMadeFor}
 use Rattle.template_core.specs.Groups.{group_of, activities_of}
 use Rattle.template_core.specs.declared.group.Group.{Group}
 use Rattle.template_core.specs.declared.group.Group.TheVariants.{Existence, Relation, Mutual, Negative}
 use Rattle.template_core.specs.declared.constraint.Constraint.{Constraint}
 use Rattle.template_core.specs.declared.kind.Kind.{Kind}
-use Rattle.model_json.proofs.ItemsRead.{one_or_two}
-use Rattle.model_json.specs.Model.{StandOnce, Known, IsModel, IsOfModel, ◌>>=◌, activities_in, each, is_twice, item_of, item_read, items_read, json_of, kind_named, model_of, model_of_bytes, only, put_in, shape_of, within}
+use Rattle.template_core.specs.declared.repertoire.Repertoire.{Repertoire}
+use Rattle.model_json.proofs.ItemsRead.{named-template, one_or_two}
+use Rattle.model_json.specs.Model.{Known, IsModel, IsOfModel, ◌>>=◌, activities_in, each, is_twice, item_of, item_read, items_read, json_of, kind_named, model_of, model_of_bytes, only, put_in, shape_of, within}
 
 -- ---- the first refusal decides
 
@@ -66,19 +68,19 @@ pass_refusal P false x e r h is = absurd (cc)
 within-of : (names : List (List ℕ)) (r : Refusal) → within names ≡ Err r → IsOfModel r
 within-of names r h = test_refusal IsOfModel (nat_le (length names) standard.activities) names (Activities standard.activities) r tt h
 
-item-of : (number : ℕ) (names : List (List ℕ)) (value : Data) (r : Refusal) → item_read number names value ≡ Err r → IsOfModel r
-item-of number names value r h =
+item-of : (repertoire : Repertoire) (number : ℕ) (names : List (List ℕ)) (value : Data) (r : Refusal) → item_read repertoire number names value ≡ Err r → IsOfModel r
+item-of repertoire number names value r h =
     refused (IsOfModel r) (ok_or (item_of value) (ModelShape number)) _ r (or_refusal IsOfModel (item_of value) (ModelShape number) r tt)
-    (λ texts. refused (IsOfModel r) (ok_or (kind_named texts.template) (UnknownTemplate number)) _ r (or_refusal IsOfModel (kind_named texts.template) (UnknownTemplate number) r tt)
+    (λ texts. refused (IsOfModel r) (ok_or (kind_named repertoire texts.template) (UnknownTemplate number)) _ r (or_refusal IsOfModel (kind_named repertoire texts.template) (UnknownTemplate number) r tt)
     (λ kind. refused (IsOfModel r) (ok_or (activities_in kind texts.parameters) (Parameters number)) _ r (or_refusal IsOfModel (activities_in kind texts.parameters) (Parameters number) r tt)
     (λ put. refused (IsOfModel r) (cond (is_twice put) (Err (SameParameter number)) (Ok put)) _ r (pass_refusal IsOfModel (is_twice put) put (SameParameter number) r tt)
     (λ different. refused (IsOfModel r) (within (fold with_name names different)) _ r (within-of (fold with_name names different) r) (λ more e. absurd (cc)))))) h
 
-items-of : (number : ℕ) (so_far : Known) (values : List Data) (r : Refusal) → items_read number so_far values ≡ Err r → IsOfModel r
-items-of number so_far [] r h = absurd (cc)
-items-of number so_far (value ∷ values) r h =
-    refused (IsOfModel r) (item_read number so_far.names value) _ r (item-of number so_far.names value r)
-    (λ next. items-of (number + 1) (record { names = next.1; constraints = so_far.constraints ++ next.0 ∷ [] }) values r) h
+items-of : (repertoire : Repertoire) (number : ℕ) (so_far : Known) (values : List Data) (r : Refusal) → items_read repertoire number so_far values ≡ Err r → IsOfModel r
+items-of repertoire number so_far [] r h = absurd (cc)
+items-of repertoire number so_far (value ∷ values) r h =
+    refused (IsOfModel r) (item_read repertoire number so_far.names value) _ r (item-of repertoire number so_far.names value r)
+    (λ next. items-of repertoire (number + 1) (record { names = next.1; constraints = so_far.constraints ++ next.0 ∷ [] }) values r) h
 
 model-of : (value : Data) (r : Refusal) → model_of value ≡ Err r → IsOfModel r
 model-of value r h =
@@ -86,7 +88,7 @@ model-of value r h =
     (λ shape. refused (IsOfModel r) (cond (nat_le (length shape.constraints) standard.candidates) (Ok shape.constraints) (Err (Candidates (length shape.constraints)))) _ r
     (test_refusal IsOfModel (nat_le (length shape.constraints) standard.candidates) shape.constraints (Candidates (length shape.constraints)) r tt)
     (λ constraints. refused (IsOfModel r) (within (first_seen shape.tasks)) _ r (within-of (first_seen shape.tasks) r)
-    (λ names. items-of 1 (record { names = names; constraints = [] }) constraints r))) h
+    (λ names. items-of shape.repertoire 1 (record { names = names; constraints = [] }) constraints r))) h
 
 pub of_model : (bytes : List ℕ) (r : Refusal) → model_of_bytes bytes ≡ Err r → IsOfModel r
 of_model bytes r h = refused (IsOfModel r) (json_of bytes) model_of r (or_refusal IsOfModel _ NotJson r tt) (λ value. model-of value r) h
@@ -131,17 +133,18 @@ module _ (names : List (List ℕ)) (first second : List ℕ) where
       true≢false (sym ((bytes_decides first second).1 (sym first_at ∙ ap (λ n. slice_index_or (with_name (with_name names first) second) n []) same ∙ second_at)) ∙ apart)
 
 -- as many names as the template has activities, that are not twice the same
-put-made : (kind : Kind) (names put : List (List ℕ)) → length put ≡ arity kind → is_twice put ≡ false → IsWellMadeFor (length (fold with_name names put)) (put_in kind (fold with_name names put) put)
-put-made kind names [] count apart = ⊎_elim (λ one. absurd (omega (arith, count, one))) (λ two. absurd (omega (arith, count, two))) (one_or_two kind)
-put-made kind names (first ∷ []) count apart =
+put-made : (kind : Kind) (names put : List (List ℕ)) → IsTemplate kind → length put ≡ arity kind → is_twice put ≡ false → IsWellMadeFor (length (fold with_name names put)) (put_in kind (fold with_name names put) put)
+put-made kind names [] known count apart = ⊎_elim (λ one. absurd (omega (arith, count, one))) (λ two. absurd (omega (arith, count, two))) (one_or_two kind)
+put-made kind names (first ∷ []) known count apart =
     let inside : place_of (with_name names first) first < length (with_name names first) = omega (arith, place_of-put names first, (place-with_name names first).0) in
-    record { first = inside; second = inside; made = one_activity (group_of kind) _ _ (sym count) refl }
-put-made kind names (first ∷ second ∷ []) count apart = record {
+    record { first = inside; second = inside; made = made-from kind (place_of (with_name names first) first) (place_of (with_name names first) first) known (one_activity (group_of kind) _ _ (sym count) refl) }
+put-made kind names (first ∷ second ∷ []) known count apart = record {
   first = first_inside names first second;
   second = second_inside names first second;
-  made = two_activities (group_of kind) _ _ (sym count) (places_differ names first second apart);
+  made = made-from kind (place_of (with_name (with_name names first) second) first) (place_of (with_name (with_name names first) second) second) known
+      (two_activities (group_of kind) _ _ (sym count) (places_differ names first second apart));
 }
-put-made kind names (first ∷ second ∷ third ∷ put) count apart = ⊎_elim (λ one. absurd (omega (arith, count, one))) (λ two. absurd (omega (arith, count, two))) (one_or_two kind)
+put-made kind names (first ∷ second ∷ third ∷ put) known count apart = ⊎_elim (λ one. absurd (omega (arith, count, one))) (λ two. absurd (omega (arith, count, two))) (one_or_two kind)
 
 -- ---- models
 
@@ -167,11 +170,11 @@ counted kind (Some names) put h = go (eqb (length names) (arity kind)) refl h
     go false e is = absurd (cc)
 
 -- what an item adds
-item-made : (number : ℕ) (names : List (List ℕ)) (value : Data) (next : Constraint × List (List ℕ)) → item_read number names value ≡ Ok next
+item-made : (repertoire : Repertoire) (number : ℕ) (names : List (List ℕ)) (value : Data) (next : Constraint × List (List ℕ)) → item_read repertoire number names value ≡ Ok next
     → (put : List (List ℕ)) × (next.1 ≡ fold with_name names put) × (length next.1 ≤ standard.activities) × IsWellMadeFor (length next.1) next.0
-item-made number names value next h =
+item-made repertoire number names value next h =
     let texts = answered (ok_or (item_of value) (ModelShape number)) _ next h in
-    let kind = answered (ok_or (kind_named texts.0.template) (UnknownTemplate number)) _ next texts.2 in
+    let kind = answered (ok_or (kind_named repertoire texts.0.template) (UnknownTemplate number)) _ next texts.2 in
     let put = answered (ok_or (activities_in kind.0 texts.0.parameters) (Parameters number)) _ next kind.2 in
     let different = answered (cond (is_twice put.0) (Err (SameParameter number)) (Ok put.0)) _ next put.2 in
     let more = answered (within (fold with_name names different.0)) _ next different.2 in
@@ -180,7 +183,8 @@ item-made number names value next h =
     let same = ok_is (put_in kind.0 more.0 different.0, more.0) next _ refl more.2 in
     let count = counted kind.0 (each only texts.0.parameters) put.0 (some_of (activities_in kind.0 texts.0.parameters) (Parameters number) put.0 put.1) in
     let put_is : put.0 ≡ different.0 = apart.1 in
-    let made = put-made kind.0 names different.0 (ap length (sym put_is) ∙ count) (ap is_twice (sym put_is) ∙ apart.0) in
+    let template = named-template repertoire texts.0.template kind.0 (some_of (kind_named repertoire texts.0.template) (UnknownTemplate number) kind.0 kind.1) in
+    let made = put-made kind.0 names different.0 template (ap length (sym put_is) ∙ count) (ap is_twice (sym put_is) ∙ apart.0) in
     subst (λ (next : Constraint × List (List ℕ)). (put : List (List ℕ)) × (next.1 ≡ fold with_name names put) × (length next.1 ≤ standard.activities) × IsWellMadeFor (length next.1) next.0) same
     (different.0, sym fits.0, fits.1, subst (λ l. IsWellMadeFor (length l) (put_in kind.0 l different.0)) fits.0 made)
 
@@ -188,16 +192,16 @@ item-made number names value next h =
 wider : (n m : ℕ) (c : Constraint) → n ≤ m → IsWellMadeFor n c → IsWellMadeFor m c
 wider n m c h made = record { first = omega (arith, made.first); second = omega (arith, made.second); made = made.made }
 
-items-made : (number : ℕ) (so_far : Known) (values : List Data) (model : Known) → IsSoFar so_far → items_read number so_far values ≡ Ok model
+items-made : (repertoire : Repertoire) (number : ℕ) (so_far : Known) (values : List Data) (model : Known) → IsSoFar so_far → items_read repertoire number so_far values ≡ Ok model
     → IsSoFar model × (length model.constraints ≡ length so_far.constraints + length values)
-items-made number so_far [] model h read = subst (λ m. IsSoFar m × (length m.constraints ≡ length so_far.constraints + 0)) (ok_is so_far model _ refl read) (h, omega arith)
-items-made number so_far (value ∷ values) model h read =
-    let next = answered (item_read number so_far.names value) _ model read in
-    let item = item-made number so_far.names value next.0 next.1 in
+items-made repertoire number so_far [] model h read = subst (λ m. IsSoFar m × (length m.constraints ≡ length so_far.constraints + 0)) (ok_is so_far model _ refl read) (h, omega arith)
+items-made repertoire number so_far (value ∷ values) model h read =
+    let next = answered (item_read repertoire number so_far.names value) _ model read in
+    let item = item-made repertoire number so_far.names value next.0 next.1 in
     let grown : length so_far.names ≤ length next.0.1 = omega (arith, ap length item.1, seen-least so_far.names item.0) in
     let seen : next.0.1 ≡ first_seen (h.seen.0 ++ item.0) =
     item.1 ∙ ap (λ l. fold with_name l item.0) h.seen.1 ∙ sym (fold-append with_name [] h.seen.0 item.0) in
-    let rest = items-made (number + 1) (record { names = next.0.1; constraints = so_far.constraints ++ next.0.0 ∷ [] }) values model (record {
+    let rest = items-made repertoire (number + 1) (record { names = next.0.1; constraints = so_far.constraints ++ next.0.0 ∷ [] }) values model (record {
       seen = (h.seen.0 ++ item.0, seen);
       few = item.2;
       made = All-push (IsWellMadeFor (length next.0.1)) so_far.constraints next.0.0
@@ -213,7 +217,7 @@ model-made value model read =
     let test = tested (nat_le (length shape.0.constraints) standard.candidates) shape.0.constraints constraints.0 (Candidates (length shape.0.constraints)) constraints.1 in
     let below : length shape.0.constraints ≤ standard.candidates = grind (arith, nat_tests) in
     let fits = within-is (first_seen shape.0.tasks) names.0 names.1 in
-    let items = items-made 1 (record { names = names.0; constraints = [] }) constraints.0 model
+    let items = items-made shape.0.repertoire 1 (record { names = names.0; constraints = [] }) constraints.0 model
     (record { seen = (shape.0.tasks, sym fits.0); few = fits.1; made = All-nil (IsWellMadeFor (length names.0)) }) names.2 in
     record {
       once = subst StandOnce (sym items.0.seen.1) (first_seen-once items.0.seen.0);

@@ -1,35 +1,38 @@
 -- Reports are read back as models.
-use Rattle.std.proofs.Common.{◌≡◌, ◌≢◌, ℕ, suc, ◌+◌, ◌≤◌, ◌<◌, List, [], ◌∷◌, ◌++◌, ◌&&◌, Bool, true, false, cond, eqb, fold, length, map, codes, refl, sym, ap, ap₂, ◌∙◌, subst, None, Some, Ok, option_and_then, option_map, arith, append_assoc, append-nil, length-append, not, ◌||◌, true≢false, ⊎_elim}
+use Rattle.std.proofs.Common.{◌≡◌, ◌≢◌, ℕ, suc, ◌+◌, ◌≤◌, ◌<◌, List, [], ◌∷◌, ◌++◌, ◌&&◌, Bool, true, false, cond, eqb, fold, length, count_by, map, codes, refl, sym, ap, ap₂, ◌∙◌, subst, Option, None, Some, Ok, option_and_then, option_map, arith, append_assoc, append-nil, length-append, not, ◌||◌, true≢false, ⊎_elim}
 use Rattle.std.specs.Prelude.{All, slice_index_or, unwrap_or}
-use Rattle.std.specs.List.{zip}
 use Rattle.std.specs.Str.{bytes_eq}
 use Rattle.std.specs.Cmp.Lexicographic.{bytes_decides}
 use Rattle.std.proofs.lemmas.Bool.{eq-eqb}
 use Rattle.std.proofs.lemmas.List.{length-map}
-use Rattle.std.proofs.lemmas.List.Elements.{All-nil, All-cons, All-head, All-tail}
+use Rattle.std.proofs.lemmas.List.Elements.{All-nil, All-cons, All-head, All-map, All-tail}
 use Rattle.std.proofs.lemmas.Option.{unwrap_or-slice_get}
 use Rattle.serde_json.specs.Data.{Data, string, array, depth}
 use Rattle.serde_json.specs.Find.{as_str, get}
 use Rattle.serde_json.specs.Read.{max_depth}
 use Rattle.serde_json.specs.View.{items_of}
 use Rattle.decl_base.specs.Limits.{standard}
-use Rattle.event_log.specs.Logs.{first_seen, has_name, with_name, place_of}
+use Rattle.event_log.specs.Logs.{first_seen, has_name, with_name, place_of, StandOnce}
 use Rattle.event_log.proofs.Appearing.{with_name-known}
+use Rattle.template_core.proofs.Made.{made-in, made-template}
 use Rattle.template_core.specs.Constraints.{arity, IsWellMadeIn, IsWellMadeFor}
 use Rattle.template_core.specs.Groups.{group_of, activities_of as activities_of_group}
 use Rattle.template_core.specs.declared.group.Group.{Group}
-use Rattle.template_core.specs.declared.group.Group.TheVariants.{Existence, Relation, Mutual, Negative}
+use Rattle.template_core.specs.declared.group.Group.TheVariants.{Existence}
+use Rattle.template_core.specs.declared.repertoire.Repertoire.{Repertoire}
+use Rattle.template_core.specs.declared.repertoire.Repertoire.TheVariants.{First, Second}
+use Rattle.template_core.specs.Repertoires.{is_of}
 use Rattle.template_core.specs.declared.constraint.Constraint.{Constraint}
 use Rattle.template_set.specs.Names.{name_of}
 use Rattle.scoring.specs.declared.scored.Scored.{Scored}
 use Rattle.reduce_model.specs.Sifting.{Sifting}
 use Rattle.reduce_model.specs.declared.decision.Decision.{Decision}
-use Rattle.model_json.specs.Model.{Item, Known, Shape, IsListed, StandOnce, activities, activities_in, each, has_version, is_twice, item_of, item_read, items_read, list_in, listed, model_of, model_of_bytes, only, put_in, shape_of, tasks_in, texts_in, values_of, within}
-use Rattle.model_json.specs.Report.{IsLineOf, activities_of, consistent_report, model_report, name_at, parameter_value, scored_value, scores_report, staying, witnessed_value}
+use Rattle.model_json.specs.Model.{Item, Known, Shape, IsListed, activities, activities_in, each, is_twice, item_of, item_read, items_read, list_in, listed, model_of, model_of_bytes, only, put_in, repertoire_of, shape_of, tasks_in, texts_in, values_of, within}
+use Rattle.model_json.specs.Report.{IsLineOf, activities_of, consistent_report, model_report, is_tested, name_at, parameter_value, listed_value, scored_value, scores_report, staying, with_witnesses}
 use Rattle.model_json.proofs.Causes.{goes_on}
-use Rattle.model_json.proofs.Chosen.{All-zip}
-use Rattle.model_json.proofs.Elements.{values_of-items_of}
-use Rattle.model_json.proofs.ItemsRead.{fold-activities, is_twice-activities, named-some, one_or_two, put_in-activities, read-constraint, within-few}
+use Rattle.model_json.proofs.Chosen.{All-unmap, stay-same}
+use Rattle.model_json.proofs.Elements.{shape, shape_of-is, values_of-items_of}
+use Rattle.model_json.proofs.ItemsRead.{fold-activities, is_twice-activities, named-own, one_or_two, put_in-activities, read-constraint, within-few}
 use Rattle.model_json.proofs.KnownModels.{model-items}
 
 -- ---- names that stand once are their own first appearances
@@ -103,22 +106,18 @@ module _ (names : List (List ℕ)) where
     place rank inside = ap (place_of names) (at_rank rank) ∙ once rank inside
 
     one : arity c.kind ≡ 1 → c.second ≡ c.first
-    one h = sym (made_one (group_of c.kind) h made.made)
+    one h = sym (made_one (group_of c.kind) h (made-in c.kind c.first c.second made.made))
       where
         made_one : (group : Group) → activities_of_group group ≡ 1 → IsWellMadeIn group c.first c.second → c.first ≡ c.second
         made_one Existence h m = m
-        made_one (Relation activation) h m = absurd (omega (arith, h))
-        made_one Mutual h m = absurd (omega (arith, h))
-        made_one Negative h m = absurd (omega (arith, h))
+        made_one group h m = absurd (omega (arith, h))
 
     two : arity c.kind ≡ 2 → c.first ≢ c.second
-    two h = made_two (group_of c.kind) h made.made
+    two h = made_two (group_of c.kind) h (made-in c.kind c.first c.second made.made)
       where
         made_two : (group : Group) → activities_of_group group ≡ 2 → IsWellMadeIn group c.first c.second → c.first ≢ c.second
         made_two Existence h m = absurd (omega (arith, h))
-        made_two (Relation activation) h m = m
-        made_two Mutual h m = m
-        made_two Negative h m = m
+        made_two group h m = m
 
     apart : arity c.kind ≡ 2 → bytes_eq (name_at names c.first) (name_at names c.second) ≡ false
     apart h = go (bytes_eq (name_at names c.first) (name_at names c.second)) refl
@@ -152,29 +151,28 @@ module _ (names : List (List ℕ)) where
         constraint a b = record { kind = c.kind; first = a; second = b }
 
     -- an item that names the constraint is read as it
-    pub item_back : (number : ℕ) (value : Data) → item_of value ≡ Some (record { template = name_of c.kind; parameters = map (λ rank. name_at names rank ∷ []) (activities_of c) })
-        → item_read number names value ≡ Ok (c, names)
-    item_back number value is =
-        read-constraint number names value _ is c.kind (named-some (name_of c.kind) c.kind refl) (activities c.kind (name_at names c.first) (name_at names c.second)) (given c) not_twice
+    pub item_back : (repertoire : Repertoire) → is_of repertoire c.kind ≡ true → (number : ℕ) (value : Data) → item_of value ≡ Some (record { template = name_of c.kind; parameters = map (λ rank. name_at names rank ∷ []) (activities_of c) })
+        → item_read repertoire number names value ≡ Ok (c, names)
+    item_back repertoire of_it number value is =
+        read-constraint repertoire number names value _ is c.kind
+        (named-own repertoire (name_of c.kind) c.kind (made-template c.kind c.first c.second made.made) refl ∙ ap (λ b. cond b (Some c.kind) None) of_it) (activities c.kind (name_at names c.first) (name_at names c.second)) (given c) not_twice
         (with_name (with_name names (name_at names c.first)) (name_at names c.second))
         (ap within (fold-activities c.kind (name_at names c.first) (name_at names c.second) names same_name)
         ∙ within-few (with_name (with_name names (name_at names c.first)) (name_at names c.second)) (omega (arith, ap length second_known, few)))
         ∙ ap₂ (λ (k : Constraint) (l : List (List ℕ)). Ok (k, l)) put_back second_known
 
 -- a constraint with its scores is an item that names it, whatever members stand behind
-scored_item : (names : List (List ℕ)) (s : Scored) → item_of (scored_value names s)
-    ≡ Some (record { template = name_of s.constraint.kind; parameters = map (λ rank. name_at names rank ∷ []) (activities_of s.constraint) })
-scored_item names s = ap (option_map (λ parameters. item (name_of s.constraint.kind) parameters)) (each-parameters names (activities_of s.constraint))
-  where
-    item : List ℕ → List (List (List ℕ)) → Item
-    item template parameters = record { template = template; parameters = parameters }
+abbrev item : List ℕ → List (List (List ℕ)) → Item
+item template parameters = record { template = template; parameters = parameters }
 
-witnessed_item : (names : List (List ℕ)) (s : Scored) (witness : List ℕ) → item_of (witnessed_value names s witness)
+named_item : (names : List (List ℕ)) (s : Scored) → option_map (item (name_of s.constraint.kind)) (each texts_in (values_of (items_of (map (parameter_value names) (activities_of s.constraint)))))
+    ≡ Some (item (name_of s.constraint.kind) (map (λ rank. name_at names rank ∷ []) (activities_of s.constraint)))
+named_item names s = ap (option_map (item (name_of s.constraint.kind))) (each-parameters names (activities_of s.constraint))
+
+listed_item : (names : List (List ℕ)) (s : Scored) (witness : Option (List ℕ)) → item_of (listed_value names s witness)
     ≡ Some (record { template = name_of s.constraint.kind; parameters = map (λ rank. name_at names rank ∷ []) (activities_of s.constraint) })
-witnessed_item names s witness = ap (option_map (λ parameters. item (name_of s.constraint.kind) parameters)) (each-parameters names (activities_of s.constraint))
-  where
-    item : List ℕ → List (List (List ℕ)) → Item
-    item template parameters = record { template = template; parameters = parameters }
+listed_item names s (Some witness) = named_item names s
+listed_item names s None = named_item names s
 
 -- ---- the items of a report
 
@@ -182,14 +180,16 @@ abbrev unscored : Scored → Constraint
 unscored s = s.constraint
 
 -- values that each name the constraint of their place are read as these constraints
-items_back : {X : Type 0} (value : X → Data) (scored : X → Scored) (names : List (List ℕ)) → StandOnce names → length names ≤ standard.activities
+items_back : {X : Type 0} (value : X → Data) (scored : X → Scored) (repertoire : Repertoire) (names : List (List ℕ)) → StandOnce names → length names ≤ standard.activities
     → ((x : X) → item_of (value x) ≡ Some (record { template = name_of (scored x).constraint.kind; parameters = map (λ rank. name_at names rank ∷ []) (activities_of (scored x).constraint) }))
-    → (number : ℕ) (before : List Constraint) (xs : List X) → All (λ x. IsWellMadeFor (length names) (scored x).constraint) xs
-    → items_read number (record { names = names; constraints = before }) (map value xs) ≡ Ok (record { names = names; constraints = before ++ map (λ x. (scored x).constraint) xs })
-items_back value scored names once few is number before [] made = ap (λ l. Ok (record { names = names; constraints = l })) (sym (append-nil before))
-items_back value scored names once few is number before (x ∷ xs) made =
-    goes_on _ _ ((scored x).constraint, names) (item_back names once few (scored x).constraint (All-head (λ x. IsWellMadeFor (length names) (scored x).constraint) x xs made) number (value x) (is x))
-    ∙ items_back value scored names once few is (number + 1) (before ++ (scored x).constraint ∷ []) xs (All-tail (λ x. IsWellMadeFor (length names) (scored x).constraint) x xs made)
+    → (number : ℕ) (before : List Constraint) (xs : List X) → All (λ x. IsWellMadeFor (length names) (scored x).constraint) xs → All (λ x. is_of repertoire (scored x).constraint.kind ≡ true) xs
+    → items_read repertoire number (record { names = names; constraints = before }) (map value xs) ≡ Ok (record { names = names; constraints = before ++ map (λ x. (scored x).constraint) xs })
+items_back value scored repertoire names once few is number before [] made of_it = ap (λ l. Ok (record { names = names; constraints = l })) (sym (append-nil before))
+items_back value scored repertoire names once few is number before (x ∷ xs) made of_it =
+    goes_on _ _ ((scored x).constraint, names) (item_back names once few (scored x).constraint (All-head (λ x. IsWellMadeFor (length names) (scored x).constraint) x xs made) repertoire
+    (All-head (λ x. is_of repertoire (scored x).constraint.kind ≡ true) x xs of_it) number (value x) (is x))
+    ∙ items_back value scored repertoire names once few is (number + 1) (before ++ (scored x).constraint ∷ []) xs (All-tail (λ x. IsWellMadeFor (length names) (scored x).constraint) x xs made)
+    (All-tail (λ x. is_of repertoire (scored x).constraint.kind ≡ true) x xs of_it)
     ∙ ap (λ l. Ok (record { names = names; constraints = l })) (append_assoc before ((scored x).constraint ∷ []) (map (λ x. (scored x).constraint) xs))
 
 -- ---- reports
@@ -198,65 +198,60 @@ each-tasks : (names : List (List ℕ)) → each as_str (values_of (items_of (map
 each-tasks [] = refl
 each-tasks (name ∷ names) = ap (option_map (λ ys. name ∷ ys)) (each-tasks names)
 
-abbrev shape : List Data → List (List ℕ) → Shape
-shape constraints tasks = record { constraints = constraints; tasks = tasks }
-
 -- the shape of a value whose members are these lists
-shaped : (value : Data) (constraints : List Data) (names : List (List ℕ)) → get (codes "constraints") value ≡ Some (array (items_of constraints))
-    → get (codes "tasks") value ≡ Some (array (items_of (map string names))) → has_version value ≡ true → shape_of value ≡ Some (shape constraints names)
-shaped value constraints names has_constraints has_tasks versioned =
-    ap (option_and_then (λ constraints. option_and_then (λ tasks. cond (has_version value) (Some (shape constraints tasks)) None) (tasks_in value)))
-    (ap (option_and_then list_in) has_constraints ∙ ap Some (values_of-items_of constraints))
-    ∙ ap (option_and_then (λ tasks. cond (has_version value) (Some (shape constraints tasks)) None))
+shaped : (value : Data) (constraints : List Data) (names : List (List ℕ)) (repertoire : Repertoire) → get (codes "constraints") value ≡ Some (array (items_of constraints))
+    → get (codes "tasks") value ≡ Some (array (items_of (map string names))) → repertoire_of value ≡ Some repertoire → shape_of value ≡ Some (shape constraints names repertoire)
+shaped value constraints names repertoire has_constraints has_tasks =
+    shape_of-is value constraints names repertoire (ap (option_and_then list_in) has_constraints ∙ ap Some (values_of-items_of constraints))
     (ap (λ o. unwrap_or (option_map texts_in o) (Some [])) has_tasks ∙ each-tasks names)
-    ∙ ap (λ b. cond b (Some (shape constraints names)) None) versioned
-
--- what is well made without its scores is so with them
-with_scores : (n : ℕ) (list : List Scored) → All (IsWellMadeFor n) (map unscored list) → All (λ s. IsWellMadeFor n s.constraint) list
-with_scores n [] made = All-nil (λ (s : Scored). IsWellMadeFor n s.constraint)
-with_scores n (s ∷ list) made =
-    All-cons (λ (s : Scored). IsWellMadeFor n s.constraint) s list (All-head (IsWellMadeFor n) s.constraint (map unscored list) made)
-    (with_scores n list (All-tail (IsWellMadeFor n) s.constraint (map unscored list) made))
 
 -- a value that lists items for these constraints, and these names, is read as they
-report_back : {X : Type 0} (report : Data) (value : X → Data) (scored : X → Scored) (names : List (List ℕ)) (xs : List X) (list : List Scored)
+report_back : {X : Type 0} (report : Data) (value : X → Data) (scored : X → Scored) (repertoire : Repertoire) (names : List (List ℕ)) (xs : List X) (list : List Scored)
     → ((x : X) → item_of (value x) ≡ Some (record { template = name_of (scored x).constraint.kind; parameters = map (λ rank. name_at names rank ∷ []) (activities_of (scored x).constraint) }))
-    → map (λ x. (scored x).constraint) xs ≡ map unscored list → All (λ x. IsWellMadeFor (length names) (scored x).constraint) xs → IsListed names list
-    → shape_of report ≡ Some (shape (map value xs) names) → model_of report ≡ Ok (listed names list)
-report_back report value scored names xs list is same made known shape_is =
+    → map (λ x. (scored x).constraint) xs ≡ map unscored list → IsListed repertoire names list
+    → shape_of report ≡ Some (shape (map value xs) names repertoire) → model_of report ≡ Ok (listed names list)
+report_back report value scored repertoire names xs list is same known shape_is =
     let few : length (map value xs) ≤ standard.candidates =
-    omega (arith, length-map xs value, length-map xs (λ x. (scored x).constraint), ap length same, known.few_constraints) in
-    model-items report (shape (map value xs) names) shape_is few names (ap within (first_seen-own names known.once) ∙ within-few names known.few_names)
-    ∙ items_back value scored names known.once known.few_names is 1 [] xs made ∙ ap (λ l. Ok (record { names = names; constraints = l })) same
+    omega (arith, length-map xs value, length-map xs (λ x. (scored x).constraint), ap length same, known.0.few_constraints) in
+    let made = All-unmap (IsWellMadeFor (length names)) (λ x. (scored x).constraint) xs (subst (All (IsWellMadeFor (length names))) (sym same) known.0.made) in
+    let of_it = All-unmap (λ c. is_of repertoire c.kind ≡ true) (λ x. (scored x).constraint) xs
+    (subst (All (λ c. is_of repertoire c.kind ≡ true)) (sym same) (All-map (λ c. is_of repertoire c.kind ≡ true) unscored list known.1)) in
+    model-items report (shape (map value xs) names repertoire) shape_is few names (ap within (first_seen-own names known.0.once) ∙ within-few names known.0.few_names)
+    ∙ items_back value scored repertoire names known.0.once known.0.few_names is 1 [] xs made of_it ∙ ap (λ l. Ok (record { names = names; constraints = l })) same
 
--- with as many witnesses, the constraints are the same
-beside : (list : List Scored) (witnesses : List (List ℕ)) → length witnesses ≡ length list → map (λ (p : Scored × List ℕ). p.0.constraint) (zip list witnesses) ≡ map unscored list
-beside [] witnesses h = refl
-beside (s ∷ list) [] h = absurd (omega (arith, h))
-beside (s ∷ list) (w ∷ witnesses) h = ap (λ l. s.constraint ∷ l) (beside list witnesses (omega (arith, h)))
+-- a report of the repertoire that lists these
+of_version : (repertoire : Repertoire) (report : Repertoire → Data) (list : List Data) (names : List (List ℕ)) → shape_of (report First) ≡ Some (shape list names First)
+    → shape_of (report Second) ≡ Some (shape list names Second) → shape_of (report repertoire) ≡ Some (shape list names repertoire)
+of_version First report list names first second = first
+of_version Second report list names first second = second
 
-pub scores_back : (names : List (List ℕ)) (list : List Scored) (traces events : ℕ) → IsListed names list → model_of (scores_report names list traces events) ≡ Ok (listed names list)
-scores_back names list traces events known =
-    report_back (scores_report names list traces events) (scored_value names) (λ s. s) names list list (scored_item names) refl (with_scores (length names) list known.made) known
-    (shaped (scores_report names list traces events) (map (scored_value names) list) names refl refl refl)
+pub scores_back : (names : List (List ℕ)) (repertoire : Repertoire) (list : List Scored) (traces events : ℕ) → IsListed repertoire names list
+    → model_of (scores_report names repertoire list traces events) ≡ Ok (listed names list)
+scores_back names repertoire list traces events known =
+    let values = map (scored_value names) list in
+    let report : Repertoire → Data = λ repertoire. scores_report names repertoire list traces events in
+    report_back (report repertoire) (scored_value names) (λ s. s) repertoire names list list (named_item names) refl known
+    (of_version repertoire report values names (shaped (report First) values names First refl refl refl) (shaped (report Second) values names Second refl refl refl))
 
-pub consistent_back : (names : List (List ℕ)) (list : List Scored) (sifting : Sifting) (traces events : ℕ) → IsListed names (staying list sifting.decisions)
-    → model_of (consistent_report names list sifting traces events) ≡ Ok (listed names (staying list sifting.decisions))
-consistent_back names list sifting traces events known =
+pub consistent_back : (names : List (List ℕ)) (repertoire : Repertoire) (list : List Scored) (sifting : Sifting) (traces events : ℕ) → IsListed repertoire names (staying list sifting.decisions)
+    → model_of (consistent_report names repertoire list sifting traces events) ≡ Ok (listed names (staying list sifting.decisions))
+consistent_back names repertoire list sifting traces events known =
     let kept = staying list sifting.decisions in
-    report_back (consistent_report names list sifting traces events) (scored_value names) (λ s. s) names kept kept (scored_item names) refl (with_scores (length names) kept known.made) known
-    (shaped (consistent_report names list sifting traces events) (map (scored_value names) kept) names refl refl refl)
+    let values = map (scored_value names) kept in
+    let report : Repertoire → Data = λ repertoire. consistent_report names repertoire list sifting traces events in
+    report_back (report repertoire) (scored_value names) (λ s. s) repertoire names kept kept (named_item names) refl known
+    (of_version repertoire report values names (shaped (report First) values names First refl refl refl) (shaped (report Second) values names Second refl refl refl))
 
-pub model_back : (names : List (List ℕ)) (list : List Scored) (decisions : List Decision) (witnesses : List (List ℕ)) (example : List ℕ) (traces events : ℕ)
-    → IsListed names (staying list decisions) → length witnesses ≡ length (staying list decisions)
-    → model_of (model_report names list decisions witnesses example traces events) ≡ Ok (listed names (staying list decisions))
-model_back names list decisions witnesses example traces events known many =
-    let kept = staying list decisions in
-    let value : Scored × List ℕ → Data = λ p. witnessed_value names p.0 p.1 in
-    report_back (model_report names list decisions witnesses example traces events) value (λ p. p.0) names (zip kept witnesses) kept
-    (λ p. witnessed_item names p.0 p.1) (beside kept witnesses many)
-    (All-zip (λ s. IsWellMadeFor (length names) s.constraint) kept witnesses (with_scores (length names) kept known.made)) known
-    (shaped (model_report names list decisions witnesses example traces events) (map value (zip kept witnesses)) names refl refl refl)
+pub model_back : (names : List (List ℕ)) (repertoire : Repertoire) (list : List Scored) (decisions : List Decision) (witnesses : List (List ℕ)) (example : List ℕ) (traces events : ℕ)
+    → IsListed repertoire names (staying list decisions) → length witnesses ≡ count_by is_tested decisions
+    → model_of (model_report names repertoire list decisions witnesses example traces events) ≡ Ok (listed names (staying list decisions))
+model_back names repertoire list decisions witnesses example traces events known many =
+    let kept = with_witnesses list decisions witnesses in
+    let value : Scored × Option (List ℕ) → Data = λ p. listed_value names p.0 p.1 in
+    let values = map value kept in
+    let report : Repertoire → Data = λ repertoire. model_report names repertoire list decisions witnesses example traces events in
+    report_back (report repertoire) value (λ p. p.0) repertoire names kept (staying list decisions) (λ p. listed_item names p.0 p.1) (stay-same list decisions witnesses many) known
+    (of_version repertoire report values names (shaped (report First) values names First refl refl refl) (shaped (report Second) values names Second refl refl refl))
 
 -- a line that reads as a value is read as its model
 pub line_back : (value : Data) (text : List ℕ) (model : Known) → IsLineOf value text → depth value ≤ max_depth → model_of value ≡ Ok model → model_of_bytes text ≡ Ok model

@@ -1,5 +1,5 @@
 -- The model that a JSON value is, by rules on its members: the first rule that fails is the refusal.
-use Rattle.std.specs.Prelude.{◌≡◌, ◌<◌, ◌≤◌, ℕ, ◌+◌, ◌==◌, ◌||◌, List, [], ◌∷◌, ◌++◌, Bool, true, false, if◌then◌else◌, nat_le, fold, codes, length, map, slice_index_or, All, Option, None, Some, option_map, option_and_then, unwrap_or, Result, Ok, Err}
+use Rattle.std.specs.Prelude.{◌≡◌, ◌<◌, ◌≤◌, ℕ, ◌+◌, ◌==◌, ◌&&◌, List, [], ◌∷◌, ◌++◌, Bool, true, false, if◌then◌else◌, nat_le, fold, codes, length, map, slice_index_or, All, Option, None, Some, option_map, option_and_then, unwrap_or, Result, Ok, Err}
 use Rattle.std.specs.List.{find}
 use Rattle.std.specs.Option.{ok_or}
 use Rattle.std.specs.Str.{bytes_eq, is_utf8}
@@ -9,10 +9,13 @@ use Rattle.serde_json.specs.Read.{read}
 use Rattle.decl_base.specs.Limits.{standard}
 use Rattle.decl_base.specs.declared.refusal.Refusal.{Refusal}
 use Rattle.decl_base.specs.declared.refusal.Refusal.TheVariants.{NotJson, ModelShape, Candidates, Activities, UnknownTemplate, Parameters, SameParameter, Memory}
-use Rattle.event_log.specs.Logs.{with_name, first_seen, place_of}
+use Rattle.event_log.specs.Logs.{with_name, first_seen, place_of, StandOnce}
 use Rattle.template_core.specs.Constraints.{arity, IsWellMadeFor}
+use Rattle.template_core.specs.Repertoires.{is_of}
 use Rattle.template_core.specs.declared.constraint.Constraint.{Constraint}
 use Rattle.template_core.specs.declared.kind.Kind.{Kind}
+use Rattle.template_core.specs.declared.repertoire.Repertoire.{Repertoire}
+use Rattle.template_core.specs.declared.repertoire.Repertoire.TheVariants.{First, Second}
 use Rattle.template_set.specs.Names.{all_kinds, name_of}
 use Rattle.scoring.specs.declared.scored.Scored.{Scored}
 
@@ -20,10 +23,6 @@ use Rattle.scoring.specs.declared.scored.Scored.{Scored}
 pub record Known : Type 0 where
   pub names : List (List ℕ)
   pub constraints : List Constraint
-
--- each name stands once: at its place, and nowhere before it
-abbrev pub StandOnce : List (List ℕ) → Type 0
-StandOnce names = (place : ℕ) → place < length names → place_of names (slice_index_or names place []) ≡ place
 
 -- names and constraints that a model may have
 pub record IsModel (model : Known) : Type 0 where
@@ -57,26 +56,34 @@ texts_in value = option_and_then (each as_str) (list_in value)
 
 -- ---- the value as a whole
 
--- a version is 1, or no whole number
-abbrev pub is_version : Data → Bool
-is_version value = unwrap_or (option_map (λ n. is_float n || unwrap_or (option_map (λ whole. whole == 1) (as_u64 n)) false) (as_number value)) true
+-- version 1 has the first repertoire, and version 2 the second
+abbrev pub repertoire_numbered : ℕ → Option Repertoire
+repertoire_numbered whole = if whole == 1 then Some First else (if whole == 2 then Some Second else None)
 
-abbrev pub has_version : Data → Bool
-has_version value = unwrap_or (option_map is_version (get (codes "version") value)) true
+-- the repertoire of a version; one that is no whole number is read past
+abbrev pub repertoire_in : Data → Option Repertoire
+repertoire_in version =
+    unwrap_or (option_map (λ n. if is_float n then Some First else option_and_then repertoire_numbered (as_u64 n)) (as_number version)) (Some First)
+
+-- the repertoire of a model: the first where it has no version
+abbrev pub repertoire_of : Data → Option Repertoire
+repertoire_of value = unwrap_or (option_map repertoire_in (get (codes "version") value)) (Some First)
 
 -- the tasks, where they are texts; none where the member is left out
 abbrev pub tasks_in : Data → Option (List (List ℕ))
 tasks_in value = unwrap_or (option_map texts_in (get (codes "tasks") value)) (Some [])
 
--- the constraints and the tasks, where the value has the shape of a model
+-- the constraints, the tasks and the repertoire, where the value has the shape of a model
 pub record Shape : Type 0 where
   pub constraints : List Data
   pub tasks : List (List ℕ)
+  pub repertoire : Repertoire
 
 abbrev pub shape_of : Data → Option Shape
 shape_of value =
-    option_and_then (λ constraints. option_and_then (λ tasks.
-    if has_version value then Some (record { constraints = constraints; tasks = tasks }) else None)
+    option_and_then (λ constraints. option_and_then (λ tasks. option_map (λ repertoire.
+    record { constraints = constraints; tasks = tasks; repertoire = repertoire })
+    (repertoire_of value))
     (tasks_in value))
     (option_and_then list_in (get (codes "constraints") value))
 
@@ -97,8 +104,9 @@ item_of value =
     (option_and_then (λ list. option_and_then (each texts_in) (list_in list)) (get (codes "parameters") value)))
     (option_and_then as_str (get (codes "template") value))
 
-abbrev pub kind_named : List ℕ → Option Kind
-kind_named text = find (λ kind. bytes_eq text (name_of kind)) all_kinds
+-- the template of the repertoire that has the name
+abbrev pub kind_named : Repertoire → List ℕ → Option Kind
+kind_named repertoire text = find (λ kind. is_of repertoire kind && bytes_eq text (name_of kind)) all_kinds
 
 abbrev pub only : List (List ℕ) → Option (List ℕ)
 only [] = None
@@ -126,21 +134,21 @@ put_in kind names (first ∷ []) = record { kind = kind; first = place_of names 
 put_in kind names (first ∷ second ∷ more) = record { kind = kind; first = place_of names first; second = place_of names second }
 
 -- the item with this number, from 1, behind some names: its constraint, and the names with its own
-abbrev pub item_read : ℕ → List (List ℕ) → Data → Result (Constraint × List (List ℕ)) Refusal
-item_read number names value = do
+abbrev pub item_read : Repertoire → ℕ → List (List ℕ) → Data → Result (Constraint × List (List ℕ)) Refusal
+item_read repertoire number names value = do
   texts ← ok_or (item_of value) (ModelShape number)
-  kind ← ok_or (kind_named texts.template) (UnknownTemplate number)
+  kind ← ok_or (kind_named repertoire texts.template) (UnknownTemplate number)
   activities ← ok_or (activities_in kind texts.parameters) (Parameters number)
   different ← (if is_twice activities then Err (SameParameter number) else Ok activities)
   more ← within (fold with_name names different)
   Ok (put_in kind more different, more)
 
 -- the items from that number on, behind a model so far: one after another, the names and the constraints go last
-abbrev pub items_read : ℕ → Known → List Data → Result Known Refusal
-items_read number so_far [] = Ok so_far
-items_read number so_far (value ∷ values) = do
-  next ← item_read number so_far.names value
-  items_read (number + 1) (record { names = next.1; constraints = so_far.constraints ++ next.0 ∷ [] }) values
+abbrev pub items_read : Repertoire → ℕ → Known → List Data → Result Known Refusal
+items_read repertoire number so_far [] = Ok so_far
+items_read repertoire number so_far (value ∷ values) = do
+  next ← item_read repertoire number so_far.names value
+  items_read repertoire (number + 1) (record { names = next.1; constraints = so_far.constraints ++ next.0 ∷ [] }) values
 
 -- ---- the model of a value and of bytes
 
@@ -149,7 +157,7 @@ model_of value = do
   shape ← ok_or (shape_of value) (ModelShape 0)
   constraints ← (if nat_le (length shape.constraints) standard.candidates then Ok shape.constraints else Err (Candidates (length shape.constraints)))
   names ← within (first_seen shape.tasks)
-  items_read 1 (record { names = names; constraints = [] }) constraints
+  items_read shape.repertoire 1 (record { names = names; constraints = [] }) constraints
 
 -- the value that the bytes are, where they are JSON
 abbrev pub json_of : List ℕ → Result Data Refusal
@@ -164,8 +172,12 @@ model_of_bytes bytes = json_of bytes >>= model_of
 abbrev pub listed : List (List ℕ) → List Scored → Known
 listed names list = record { names = names; constraints = map (λ scored. scored.constraint) list }
 
-abbrev pub IsListed : List (List ℕ) → List Scored → Type 0
-IsListed names list = IsModel (listed names list)
+-- what a report of the repertoire may list
+abbrev pub AreOf : Repertoire → List Scored → Type 0
+AreOf repertoire list = All (λ scored. is_of repertoire scored.constraint.kind ≡ true) list
+
+abbrev pub IsListed : Repertoire → List (List ℕ) → List Scored → Type 0
+IsListed repertoire names list = IsModel (listed names list) × AreOf repertoire list
 
 -- ---- why there is none
 

@@ -3,7 +3,7 @@ ghost use Rattle.serde_json.specs.Data.{object, member, string};
 ghost use Rattle.serde_json.specs.View.{view};
 ghost use Rattle.template_core.specs.Constraints.{IsWellMadeFor};
 ghost use Rattle.model_json.specs.Report.{fraction_value, parameters_value, constraint_value, trace_value, why};
-ghost use Rattle.model_json.specs.Report.{scored_members, scored_value, witnessed_value};
+ghost use Rattle.model_json.specs.Report.{scored_members, scored_value, untested_value, witnessed_value};
 
 use decl_base::{Frac, Trace};
 use event_log::Alphabet;
@@ -72,6 +72,22 @@ pub fn witnessed_value(
         "support": shared.support,
         "template": name(scored.constraint.kind),
         "witness": witness
+    })
+}
+
+/// A constraint with its scores that stays untested.
+pub fn untested_value(alloc: Global, names: &Alphabet, scored: &Scored) -> Result<Value, AllocError>
+    requires { IsWellMadeFor (length names.now.names) scored.now.constraint }
+    ensures { IfOk result (λ value. view value ≡ untested_value names.now.names scored.now) }
+{
+    let shared = shared_of(alloc, names, scored)?;
+    json!(in alloc; {
+        "confidence": shared.confidence,
+        "interest": shared.interest,
+        "parameters": shared.parameters,
+        "support": shared.support,
+        "template": name(scored.constraint.kind),
+        "untested": true
     })
 }
 

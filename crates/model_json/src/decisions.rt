@@ -1,17 +1,18 @@
 ghost use Rattle.std.specs.Prelude.{◌≡◌, map, length, All, IfOk};
 ghost use Rattle.serde_json.specs.View.{view};
 ghost use Rattle.template_core.specs.Constraints.{IsWellMadeFor};
-ghost use Rattle.model_json.specs.Report.{is_kept, staying, decided_value, dropped_values};
+ghost use Rattle.model_json.specs.Report.{is_tested, staying, decided_value, dropped_values};
 
-use crate::constraints::{dropped_value, scored_value, weaker_value};
+use crate::constraints::{dropped_value, scored_value, untested_value, weaker_value};
 use event_log::Alphabet;
 use reduce_model::Decision;
 use scoring::Scored;
 use serde_json::Value;
 use std::alloc::{AllocError, Global};
 
-fn is_kept(decision: Decision) -> bool
-    ensures { result ≡ is_kept decision }
+/// Whether it stays, and a trace breaks it alone.
+pub fn is_tested(decision: Decision) -> bool
+    ensures { result ≡ is_tested decision }
 {
     matches!(decision, Decision::Kept)
 }
@@ -27,7 +28,7 @@ pub fn staying(
 {
     let mut kept = Vec::new(alloc);
     for (place, scored) in list.iter().enumerate() {
-        if is_kept(decisions[place]) {
+        if decisions[place].is_kept() {
             kept.push(*scored)?;
         }
     }
@@ -48,7 +49,7 @@ pub fn dropped_values(
     let mut values = Vec::new(alloc);
     for (place, scored) in list.iter().enumerate() {
         let decision = decisions[place];
-        if !is_kept(decision) {
+        if !decision.is_kept() {
             values.push(decided_value(alloc, names, list, scored, decision)?)?;
         }
     }
@@ -76,5 +77,7 @@ fn decided_value(
         }
         Decision::FirstPass => dropped_value(alloc, names, scored, "first-pass"),
         Decision::SecondPass => dropped_value(alloc, names, scored, "second-pass"),
+        Decision::Beyond => dropped_value(alloc, names, scored, "beyond"),
+        Decision::Untested => untested_value(alloc, names, scored),
     }
 }

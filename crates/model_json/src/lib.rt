@@ -14,7 +14,7 @@ mod tests;
 mod text;
 
 pub use constraints::trace_value;
-pub use decisions::staying;
+pub use decisions::{is_tested, staying};
 pub use known::KnownModel;
 pub use laws::{
     models_are_within, refusals_are_of_models, report_texts_read_back, reports_are_shallow,

@@ -3,9 +3,9 @@ ghost use Rattle.std.specs.List.{filter_map};
 ghost use Rattle.serde_json.specs.Find.{as_str};
 ghost use Rattle.serde_json.specs.View.{view};
 ghost use Rattle.decl_base.specs.Limits.{standard};
-ghost use Rattle.event_log.specs.Logs.{first_seen};
+ghost use Rattle.event_log.specs.Logs.{first_seen, StandOnce};
 ghost use Rattle.template_core.specs.Constraints.{IsWellMadeFor};
-ghost use Rattle.model_json.specs.Model.{json_of, model_of, model_of_bytes, items_read, within, IsOfModel, ModelCause, StandOnce};
+ghost use Rattle.model_json.specs.Model.{json_of, model_of, model_of_bytes, items_read, within, IsOfModel, ModelCause};
 
 use crate::items::read_item;
 use crate::known::KnownModel;
@@ -14,6 +14,7 @@ use decl_base::{Limits, Refusal};
 use event_log::Alphabet;
 use serde_json::Value;
 use std::alloc::Global;
+use template_core::Repertoire;
 
 /// The model that the bytes are, as JSON.
 ///
@@ -62,7 +63,7 @@ fn model_of(alloc: Global, value: &Value) -> Result<KnownModel, Refusal>
         return Err(Refusal::Candidates { count });
     }
     let names = task_names(alloc, shape.tasks)?;
-    constraints_of(alloc, names, shape.constraints)
+    constraints_of(alloc, names, shape.repertoire, shape.constraints)
 }
 
 /// The names of the tasks, each once.
@@ -80,18 +81,23 @@ fn task_names(alloc: Global, tasks: &[Value]) -> Result<Alphabet, Refusal>
     Ok(names)
 }
 
-/// The model of the items behind the names of the tasks.
-fn constraints_of(alloc: Global, names: Alphabet, items: &[Value]) -> Result<KnownModel, Refusal>
+/// The model of the items, of templates of the repertoire, behind the names of the tasks.
+fn constraints_of(
+    alloc: Global,
+    names: Alphabet,
+    repertoire: Repertoire,
+    items: &[Value],
+) -> Result<KnownModel, Refusal>
     requires limit { names.limit ≡ standard.activities }
     requires within { length names.names ≤ standard.activities }
     requires few { length items.now ≤ standard.candidates }
-    ensures model { IfOk result (λ model. items_read 1 (record { names = names.names; constraints = [] }) (map view items.now) ≡ Ok model) }
-    ensures refusal { IfErr result (ModelCause (items_read 1 (record { names = names.names; constraints = [] }) (map view items.now))) }
+    ensures model { IfOk result (λ model. items_read repertoire 1 (record { names = names.names; constraints = [] }) (map view items.now) ≡ Ok model) }
+    ensures refusal { IfErr result (ModelCause (items_read repertoire 1 (record { names = names.names; constraints = [] }) (map view items.now))) }
 {
     let mut names = names;
     let mut constraints = Vec::new(alloc);
     for (place, item) in items.iter().enumerate() {
-        constraints.push(read_item(&mut names, place as u32 + 1, item)?)?;
+        constraints.push(read_item(&mut names, repertoire, place as u32 + 1, item)?)?;
     }
     Ok(KnownModel::new(names, constraints))
 }

@@ -14,7 +14,7 @@ fn texts_that_are_refused(rt: HostRuntime) -> Result<(), Fail> {
             Refusal::ModelShape { at: 0 },
         ),
         (
-            r#"{"constraints":[],"version":2}"#,
+            r#"{"constraints":[{"template":"Exactly2","parameters":[["a"]]}],"version":3}"#,
             Refusal::ModelShape { at: 0 },
         ),
         (
@@ -23,6 +23,14 @@ fn texts_that_are_refused(rt: HostRuntime) -> Result<(), Fail> {
         ),
         (
             r#"{"constraints":[{"template":"Respond","parameters":[["a"],["b"]]}]}"#,
+            Refusal::UnknownTemplate { at: 1 },
+        ),
+        (
+            r#"{"constraints":[{"template":"Exactly2","parameters":[["a"]]}]}"#,
+            Refusal::UnknownTemplate { at: 1 },
+        ),
+        (
+            r#"{"constraints":[{"template":"Exactly0","parameters":[["a"]]}],"version":2}"#,
             Refusal::UnknownTemplate { at: 1 },
         ),
         (
@@ -79,6 +87,21 @@ fn texts_that_are_read(rt: HostRuntime) -> Result<(), Fail> {
             .names()
             .len(),
         0
+    );
+    Ok(())
+}
+
+#[test]
+fn counted_template_that_is_read(rt: HostRuntime) -> Result<(), Fail> {
+    let text = r#"{"constraints":[{"template":"Exactly2","parameters":[["a"]]}],"version":2}"#;
+    let twice = Constraint {
+        kind: Kind::Exactly { n: 2 },
+        first: 0,
+        second: 0,
+    };
+    assert_eq!(rt;
+        read_model(rt.alloc(), text.as_bytes())?.constraints(),
+        [twice].as_slice()
     );
     Ok(())
 }

@@ -33,7 +33,7 @@ impl Decision {
     }
 
     /// Whether it still stands.
-    pub(crate) fn is_kept(&self) -> bool
+    pub fn is_kept(&self) -> bool
         ensures { result ≡ kept self.now }
     {
         matches!(self, Decision::Kept | Decision::Untested)

@@ -6,7 +6,7 @@ use Rattle.decl_base.specs.Fraction.{Fraction}
 use Rattle.template_core.specs.declared.kind.Kind.{Kind}
 use Rattle.template_core.specs.declared.kind.Kind.TheVariants.{Init, End, Participation, AtMostOne, Response}
 use Rattle.scoring.specs.declared.scored.Scored.{Scored}
-use Rattle.reduce_model.specs.declared.decision.Decision.TheVariants.{Kept, Weaker, FirstPass}
+use Rattle.reduce_model.specs.declared.decision.Decision.TheVariants.{Kept, Weaker, FirstPass, Untested}
 use Rattle.report_text.specs.CheckTable.{check_table_text}
 use Rattle.report_text.specs.ModelTable.{model_table_text, consistent_table_text}
 use Rattle.report_text.specs.Summary.{summary_of}
@@ -22,6 +22,11 @@ one_event : model_table_text (codes "a" ∷ []) (of_one Init ∷ of_one End ∷ 
     ≡ codes "     support   confidence     interest constraint\n         1/1          1/1          1/1 Init(\"a\") []\n         1/1          1/1          1/1 AtMostOne(\"a\") [\"a\",\"a\"]\n"
 unfolding serde_json_on_literals digits
 one_event = refl
+
+untested : model_table_text (codes "a" ∷ []) (of_one Init ∷ of_one End ∷ of_one AtMostOne ∷ []) (Untested ∷ FirstPass ∷ Kept ∷ []) ((0 ∷ 0 ∷ []) ∷ [])
+    ≡ codes "     support   confidence     interest constraint\n         1/1          1/1          1/1 Init(\"a\") -\n         1/1          1/1          1/1 AtMostOne(\"a\") [\"a\",\"a\"]\n"
+unfolding serde_json_on_literals digits
+untested = refl
 
 without_witnesses : consistent_table_text (codes "a" ∷ []) (of_one Init ∷ of_one End ∷ []) (Kept ∷ FirstPass ∷ [])
     ≡ codes "     support   confidence     interest constraint\n         1/1          1/1          1/1 Init(\"a\")\n"

@@ -1,11 +1,11 @@
 -- The tables of a mined model: a heading, and a line for each listed constraint.
-use Rattle.std.specs.Prelude.{ℕ, List, [], ◌∷◌, ◌++◌, codes, decimal}
-use Rattle.std.specs.List.{flat_map, zip}
+use Rattle.std.specs.Prelude.{ℕ, List, [], ◌∷◌, ◌++◌, codes, decimal, Option, None, Some}
+use Rattle.std.specs.List.{flat_map}
 use Rattle.serde_json.specs.Written.{compact_text}
 use Rattle.decl_base.specs.Fraction.{Fraction}
 use Rattle.scoring.specs.declared.scored.Scored.{Scored}
 use Rattle.reduce_model.specs.declared.decision.Decision.{Decision}
-use Rattle.model_json.specs.Report.{staying, trace_value}
+use Rattle.model_json.specs.Report.{staying, trace_value, with_witnesses}
 use Rattle.report_text.specs.Fields.{column, constraint_text}
 
 abbrev pub model_heading : List ℕ
@@ -23,9 +23,14 @@ scored_text names s =
 abbrev pub scored_line : List (List ℕ) → Scored → List ℕ
 scored_line names s = scored_text names s ++ 10 ∷ []
 
--- the same with the trace that breaks it alone, as a JSON list of names
-abbrev pub witnessed_line : List (List ℕ) → Scored → List ℕ → List ℕ
-witnessed_line names s witness = scored_text names s ++ (32 ∷ [] ++ compact_text (trace_value names witness) ++ 10 ∷ [])
+-- the trace that breaks a constraint alone, as a JSON list of names, or `-` where it is untested
+abbrev pub witness_text : List (List ℕ) → Option (List ℕ) → List ℕ
+witness_text names (Some witness) = compact_text (trace_value names witness)
+witness_text names None = codes "-"
+
+-- a constraint with its witness
+abbrev pub listed_line : List (List ℕ) → Scored → Option (List ℕ) → List ℕ
+listed_line names s witness = scored_text names s ++ (32 ∷ [] ++ witness_text names witness ++ 10 ∷ [])
 
 -- all candidates
 abbrev pub scores_table_text : List (List ℕ) → List Scored → List ℕ
@@ -35,10 +40,6 @@ scores_table_text names list = model_heading ++ flat_map (scored_line names) lis
 abbrev pub consistent_table_text : List (List ℕ) → List Scored → List Decision → List ℕ
 consistent_table_text names list decisions = scores_table_text names (staying list decisions)
 
--- constraints, each with its witness
-abbrev pub witnessed_table_text : List (List ℕ) → List (Scored × List ℕ) → List ℕ
-witnessed_table_text names list = model_heading ++ flat_map (λ p. witnessed_line names p.0 p.1) list
-
 -- those that stay, each with its witness
 abbrev pub model_table_text : List (List ℕ) → List Scored → List Decision → List (List ℕ) → List ℕ
-model_table_text names list decisions witnesses = witnessed_table_text names (zip (staying list decisions) witnesses)
+model_table_text names list decisions witnesses = model_heading ++ flat_map (λ p. listed_line names p.0 p.1) (with_witnesses list decisions witnesses)

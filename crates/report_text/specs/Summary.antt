@@ -2,7 +2,7 @@
 use Rattle.std.specs.Prelude.{ℕ, List, [], ◌∷◌, ◌++◌, length, codes, decimal, count_by}
 use Rattle.std.specs.Str.{bytes_eq}
 use Rattle.reduce_model.specs.declared.decision.Decision.{Decision}
-use Rattle.reduce_model.specs.declared.decision.Decision.TheVariants.{Kept, Conflict, Weaker, FirstPass, SecondPass}
+use Rattle.reduce_model.specs.declared.decision.Decision.TheVariants.{Kept, Conflict, Weaker, FirstPass, SecondPass, Beyond, Untested}
 
 -- the word for what becomes of a candidate
 abbrev pub outcome : Decision → List ℕ
@@ -11,6 +11,8 @@ outcome Conflict = codes "conflict"
 outcome (Weaker by) = codes "weaker"
 outcome FirstPass = codes "first-pass"
 outcome SecondPass = codes "second-pass"
+outcome Beyond = codes "beyond"
+outcome Untested = codes "untested"
 
 -- how many have that outcome
 abbrev pub count_with : List ℕ → List Decision → ℕ

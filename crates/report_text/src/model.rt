@@ -1,16 +1,15 @@
-ghost use Rattle.std.specs.Prelude.{◌≡◌, ◌<◌, ◌++◌, ◌∷◌, [], List, ℕ, map, string_bytes, length, All, IfOk, IfErr, OnOk};
-ghost use Rattle.std.specs.List.{zip};
+ghost use Rattle.std.specs.Prelude.{◌≡◌, ◌<◌, ◌++◌, ◌∷◌, [], List, ℕ, map, string_bytes, length, count_by, All, IfOk, IfErr, OnOk};
 ghost use Rattle.serde_json.specs.Written.{compact_text};
 ghost use Rattle.template_core.specs.Constraints.{IsWellMadeFor};
-ghost use Rattle.model_json.specs.Report.{staying, trace_value};
+ghost use Rattle.model_json.specs.Report.{is_tested, trace_value};
 ghost use Rattle.report_text.specs.Fields.{quoted, column};
-ghost use Rattle.report_text.specs.ModelTable.{score_text, scored_text, scores_table_text, consistent_table_text, witnessed_table_text, model_table_text};
+ghost use Rattle.report_text.specs.ModelTable.{score_text, scored_text, scores_table_text, consistent_table_text, model_table_text};
 
 use crate::fields::{put_column, put_constraint, quote_all};
 use decl_base::{Frac, Refusal, Trace};
 use event_log::Alphabet;
-use model_json::{staying, trace_value};
-use reduce_model::{Reduced, Sifted};
+use model_json::{is_tested, staying, trace_value};
+use reduce_model::{Decision, Reduced, Sifted};
 use scoring::Scored;
 use std::alloc::{AllocError, Global};
 
@@ -18,6 +17,9 @@ use std::alloc::{AllocError, Global};
 const WIDTH: usize = 12;
 
 const HEADING: &str = "     support   confidence     interest constraint\n";
+
+/// What stands for the witness of an untested constraint, to the end of the line.
+const UNTESTED: &str = " -\n";
 
 /// The table of all candidates with their scores, over names in byte order.
 pub fn scores_table(alloc: Global, names: &Alphabet, list: &[Scored]) -> Result<Vec<u8>, Refusal>
@@ -51,7 +53,7 @@ pub fn consistent_table(
     scores_table(alloc, names, &kept)
 }
 
-/// The table of the reduced candidates, over names in byte order: those that stay, each with its witness.
+/// The table of the reduced candidates, over names in byte order: those that stay, each with its witness or untested.
 pub fn model_table(
     alloc: Global,
     names: &Alphabet,
@@ -60,34 +62,45 @@ pub fn model_table(
 ) -> Result<Vec<u8>, Refusal>
     requires made { All (λ scored. IsWellMadeFor (length names.now.names) scored.constraint) list.now }
     requires decisions { length reduced.now.decisions ≡ length list.now }
-    requires witnesses { length reduced.now.witnesses ≡ length (staying list.now reduced.now.decisions) }
+    requires witnesses { length reduced.now.witnesses ≡ count_by is_tested reduced.now.decisions }
     requires witness { All (λ trace. All (λ rank. rank < length names.now.names) trace) reduced.now.witnesses }
     ensures ok { IfOk result (λ text. text.items
         ≡ model_table_text names.now.names list.now reduced.now.decisions reduced.now.witnesses) }
     ensures err { IfErr result (λ e. e ≡ Refusal.Memory) }
 {
-    let kept = staying(alloc, list, reduced.decisions())?;
-    Ok(witnessed_table(alloc, names, &kept, reduced.witnesses())?)
+    let witnesses = reduced.witnesses();
+    Ok(listed_table(alloc, names, list, reduced.decisions(), witnesses)?)
 }
 
-/// The table of constraints, each with its witness.
-pub(crate) fn witnessed_table(
+/// The table of the candidates that stay, each with its witness or untested.
+pub(crate) fn listed_table(
     alloc: Global,
     names: &Alphabet,
-    kept: &[Scored],
+    list: &[Scored],
+    decisions: &[Decision],
     witnesses: &[Trace],
 ) -> Result<Vec<u8>, AllocError>
-    requires made { All (λ scored. IsWellMadeFor (length names.now.names) scored.constraint) kept.now }
-    requires witnesses { length witnesses.now ≡ length kept.now }
+    requires made { All (λ scored. IsWellMadeFor (length names.now.names) scored.constraint) list.now }
+    requires decisions { length decisions.now ≡ length list.now }
+    requires witnesses { length witnesses.now ≡ count_by is_tested decisions.now }
     requires witness { All (λ trace. All (λ rank. rank < length names.now.names) trace) witnesses.now }
-    ensures { IfOk result (λ text. text.items ≡ witnessed_table_text names.now.names (zip kept.now witnesses.now)) }
+    ensures { IfOk result (λ text. text.items ≡ model_table_text names.now.names list.now decisions.now witnesses.now) }
 {
     let texts = quote_all(alloc, names)?;
     let mut out = Vec::new(alloc);
     out.extend_from_slice(HEADING.as_bytes())?;
-    for (place, scored) in kept.iter().enumerate() {
-        put_scored(alloc, &mut out, &texts, scored)?;
-        put_witness(alloc, &mut out, names, &witnesses[place])?;
+    let mut next = 0;
+    for (place, scored) in list.iter().enumerate() {
+        let decision = decisions[place];
+        if decision.is_kept() {
+            put_scored(alloc, &mut out, &texts, scored)?;
+            if is_tested(decision) {
+                put_witness(alloc, &mut out, names, &witnesses[next])?;
+                next += 1;
+            } else {
+                out.extend_from_slice(UNTESTED.as_bytes())?;
+            }
+        }
     }
     Ok(out)
 }

@@ -61,6 +61,8 @@ fn outcome(decision: Decision) -> &'static str
         Decision::Weaker { .. } => "weaker",
         Decision::FirstPass => "first-pass",
         Decision::SecondPass => "second-pass",
+        Decision::Beyond => "beyond",
+        Decision::Untested => "untested",
     }
 }
 

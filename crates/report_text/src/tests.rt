@@ -1,17 +1,16 @@
-ghost use Rattle.std.specs.Prelude.{◌≡◌};
-ghost use Rattle.template_core.specs.Constraints.{arity, IsWellMadeFor};
+ghost use Rattle.template_core.specs.Constraints.{IsWellMade, IsWellMadeFor};
 
-use crate::model::witnessed_table;
+use crate::model::listed_table;
 use crate::{scores_table, summary_text};
 use decl_base::{Frac, Trace};
 use event_log::Alphabet;
-use reduce_model::reduce;
+use reduce_model::{Decision, reduce};
 use scoring::Scored;
 use std::test::Fail;
 use template_core::{Constraint, Kind};
 
 fn of_one(kind: Kind) -> Constraint
-    requires { arity kind ≡ 1 }
+    requires { IsWellMade kind 0 0 }
     ensures { IsWellMadeFor 1 result }
 {
     Constraint {
@@ -22,7 +21,7 @@ fn of_one(kind: Kind) -> Constraint
 }
 
 fn always_kept(kind: Kind) -> Scored
-    requires { arity kind ≡ 1 }
+    requires { IsWellMade kind 0 0 }
     ensures { IsWellMadeFor 1 result.constraint }
 {
     let whole = Frac::new(1, 1);
@@ -34,16 +33,17 @@ fn always_kept(kind: Kind) -> Scored
     }
 }
 
-/// The constraints that are listed for the log of one trace of one event.
+/// The constraints that are listed for the log of one trace of one event, the second of them untested.
 #[test]
 fn listed_constraints(rt: HostRuntime) -> Result<(), Fail> {
     let mut names = Alphabet::new(rt.alloc(), 1_000);
     names.add("a")?;
     let list = [always_kept(Kind::Init), always_kept(Kind::AtMostOne)];
-    let witnesses = [Trace::of(rt.alloc(), &[])?, Trace::of(rt.alloc(), &[0, 0])?];
-    let text = witnessed_table(rt.alloc(), &names, &list, &witnesses)?;
+    let decisions = [Decision::Kept, Decision::Untested];
+    let witnesses = [Trace::of(rt.alloc(), &[])?];
+    let text = listed_table(rt.alloc(), &names, &list, &decisions, &witnesses)?;
     let expected =
-        "     support   confidence     interest constraint\n         1/1          1/1          1/1 Init(\"a\") []\n         1/1          1/1          1/1 AtMostOne(\"a\") [\"a\",\"a\"]\n";
+        "     support   confidence     interest constraint\n         1/1          1/1          1/1 Init(\"a\") []\n         1/1          1/1          1/1 AtMostOne(\"a\") -\n";
     assert_eq!(rt; text.as_slice(), expected.as_bytes());
     let text = scores_table(rt.alloc(), &names, &list)?;
     let expected =

@@ -4,7 +4,8 @@ use Rattle.serde_json.specs.Data.{Data}
 use Rattle.serde_json.specs.View.{view}
 use Rattle.reduce_model.specs.declared.decision.Decision.{Decision}
 use Rattle.reduce_model.specs.declared.decision.Decision.TheVariants.{Kept}
-use Rattle.model_json.specs.Report.{is_kept, decided_value}
+use Rattle.reduce_model.specs.Deciding.{is_kept}
+use Rattle.model_json.specs.Report.{decided_value}
 use Rattle.model_json.proofs.Chosen.{zip-more, filter-taken, filter-left}
 use Rattle.model_json.proofs.Values.{values-pushed}
 use Rattle.model_json.proofs.decisions.dropped_values.Goals.{then-not-is_kept+in_ok-decided_value+in_ok-push, else-not-is_kept}

@@ -1,6 +1,7 @@
 use Rattle.std.proofs.Common.{◌≡◌, map, take, not}
 use Rattle.serde_json.specs.View.{view}
-use Rattle.model_json.specs.Report.{decided, decided_value, is_kept}
+use Rattle.reduce_model.specs.Deciding.{is_kept}
+use Rattle.model_json.specs.Report.{decided, decided_value}
 use Rattle.model_json.proofs.decisions.dropped_values.Given as goal
 
 abbrev pub invariant-loop-place : goal.invariant-loop-place

@@ -2,7 +2,7 @@ use Rattle.std.proofs.Common.{Bool, get_or, map, ap, sym, ◌∙◌, refl}
 use Rattle.scoring.specs.declared.scored.Scored.{Scored}
 use Rattle.reduce_model.specs.declared.decision.Decision.{Decision}
 use Rattle.reduce_model.specs.declared.decision.Decision.TheVariants.{Kept}
-use Rattle.model_json.specs.Report.{is_kept}
+use Rattle.reduce_model.specs.Deciding.{is_kept}
 use Rattle.model_json.proofs.Chosen.{zip-more, filter-taken, filter-left}
 use Rattle.model_json.proofs.Values.{map-pushed}
 use Rattle.model_json.proofs.decisions.staying.Goals.{then-is_kept+in_ok-push, else-is_kept}

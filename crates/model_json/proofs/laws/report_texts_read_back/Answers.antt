@@ -5,15 +5,15 @@ use Rattle.model_json.specs.Report.{consistent_report, model_report, scores_repo
 use Rattle.model_json.proofs.laws.report_texts_read_back.Goals as goal
 
 pub returns-clause-scores : goal.returns-clause-scores
-returns-clause-scores c = λ names list traces events text known line.
-    line_back (scores_report names list traces events) text (listed names list) line (depth-scores_report names list traces events) (scores_back names list traces events known)
+returns-clause-scores c = λ names repertoire list traces events text known line.
+    line_back (scores_report names repertoire list traces events) text (listed names list) line (depth-scores_report names repertoire list traces events) (scores_back names repertoire list traces events known)
 
 pub returns-clause-consistent : goal.returns-clause-consistent
-returns-clause-consistent c = λ names list sifting traces events text known line.
-    line_back (consistent_report names list sifting traces events) text (listed names (staying list sifting.decisions)) line
-    (depth-consistent_report names list sifting traces events) (consistent_back names list sifting traces events known)
+returns-clause-consistent c = λ names repertoire list sifting traces events text known line.
+    line_back (consistent_report names repertoire list sifting traces events) text (listed names (staying list sifting.decisions)) line
+    (depth-consistent_report names repertoire list sifting traces events) (consistent_back names repertoire list sifting traces events known)
 
 pub returns-clause-model : goal.returns-clause-model
-returns-clause-model c = λ names list decisions witnesses example traces events text known many line.
-    line_back (model_report names list decisions witnesses example traces events) text (listed names (staying list decisions)) line
-    (depth-model_report names list decisions witnesses example traces events) (model_back names list decisions witnesses example traces events known many)
+returns-clause-model c = λ names repertoire list decisions witnesses example traces events text known many line.
+    line_back (model_report names repertoire list decisions witnesses example traces events) text (listed names (staying list decisions)) line
+    (depth-model_report names repertoire list decisions witnesses example traces events) (model_back names repertoire list decisions witnesses example traces events known many)

@@ -44,6 +44,6 @@ returns-clause-refusal c =
     let texts = each-filter_map as_str (map view c.in-Some.shape.tasks.now) known.0 known.1 in
     let few : length (map view items) ≤ standard.candidates = omega (arith, length-map items view, ap (λ l. l.candidates) c.standard.ensures, c.if-count-standard.false) in
     IfErr-weaker c.constraints_of.result _ _
-    (λ r cause. handed (items_read 1 (record { names = names; constraints = [] }) (map view items)) (model_of value) r
+    (λ r cause. handed (items_read c.in-Some.shape.repertoire 1 (record { names = names; constraints = [] }) (map view items)) (model_of value) r
     (λ refused. model-items value _ known.2 few names (ap (λ l. within (first_seen l)) (sym texts) ∙ c.in_ok-names.ensures.names) ∙ refused) cause)
     c.constraints_of.ensures.refusal

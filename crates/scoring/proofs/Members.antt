@@ -1,8 +1,8 @@
 -- Which constraints and which scores a list of candidates has.
-use Rattle.std.proofs.Common.{◌≡◌, ◌↔◌, ℕ, zero, suc, ◌<◌, ◌≤◌, List, [], ◌∷◌, ◌++◌, Bool, true, false, cond, map, filter, fold, length, Ordering, refl, sym, ap, subst, ◌∙◌, arith}
+use Rattle.std.proofs.Common.{◌≡◌, ◌↔◌, ℕ, zero, suc, ◌<◌, ◌≤◌, List, [], ◌∷◌, ◌++◌, Bool, true, false, cond, map, filter, length, refl, sym, ap, subst, ◌∙◌, arith}
 use Rattle.std.specs.List.{AllByRecursion, Contains, range_with_len, flat_map}
-use Rattle.std.specs.Ordering.{is_lt}
 use Rattle.std.proofs.lemmas.List.Elements.{All-from_recursion, recursion_from_All, All-contains, Contains-get_or, Contains-append_left, Contains-append_right}
+use Rattle.std.proofs.lemmas.List.Sorted.{Contains-permutation}
 use Rattle.std.proofs.lemmas.List.Sums.{length-filter, count_by-le-length}
 use Rattle.std.proofs.lemmas.List.FromFn.{get_or-range_with_len, length-range_with_len}
 use Rattle.decl_base.specs.declared.threshold.Thresholds.{Thresholds}
@@ -15,11 +15,11 @@ use Rattle.template_core.specs.Constraints.{IsTemplate}
 use Rattle.template_core.specs.Groups.{takes}
 use Rattle.template_core.specs.Repertoires.{is_candidate}
 use Rattle.scoring.specs.Candidates.{constraint_of, mined_kinds, constraints_from, constraints_of, constraints_over, IsConstraintOver, reaches_all, reaching, candidates_of, IsCandidate}
-use Rattle.scoring.specs.Priority.{priority_cmp, insert_in_order, in_order}
+use Rattle.scoring.specs.Priority.{priority_cmp, in_order}
 use Rattle.scoring.specs.Scores.{scored_from, scored}
 use Rattle.scoring.specs.declared.scored.Scored.{Scored}
 use Rattle.scoring.proofs.Listing.{all_and, all-map, all-filter, all-flat_map, each_below}
-use Rattle.scoring.proofs.Orders.{in_order-all}
+use Rattle.scoring.proofs.Orders.{in_order-all, in_order-moves}
 
 Contains-here : {X : Type 0} (x : X) (xs : List X) → Contains (x ∷ xs) x
 Contains-here x xs = (0, omega arith, refl)
@@ -55,33 +55,6 @@ Contains-flat_map f x y (z ∷ zs) h inside =
 
 Contains-range : (n k : ℕ) → k < n → Contains (range_with_len 0 n) k
 Contains-range n k h = (k, omega (arith, length-range_with_len 0 n), get_or-range_with_len 0 n k k h ∙ omega arith)
-
-module _ {X : Type 0} (R : X → X → Ordering) where
-  insert-has : (x y : X) (xs : List X) → Contains (x ∷ xs) y → Contains (insert_in_order R xs x) y
-  insert-has x y [] h = h
-  insert-has x y (z ∷ zs) h = go (is_lt (R x z)) (insert-has x y zs)
-    where
-      go : (v : Bool) → (Contains (x ∷ zs) y → Contains (insert_in_order R zs x) y) → Contains (cond v (x ∷ z ∷ zs) (z ∷ insert_in_order R zs x)) y
-      go true rest = h
-      go false rest =
-          Contains-cons (Contains (z ∷ insert_in_order R zs x) y) x y (z ∷ zs) h
-          (λ e. Contains-more z y (insert_in_order R zs x) (rest (subst (λ v. Contains (x ∷ zs) v) e (Contains-here x zs))))
-          (λ more. Contains-cons (Contains (z ∷ insert_in_order R zs x) y) z y zs more (λ e. subst (λ v. Contains (z ∷ insert_in_order R zs x) v) e (Contains-here z (insert_in_order R zs x)))
-          (λ inside. Contains-more z y (insert_in_order R zs x) (rest (Contains-more x y zs inside))))
-
-  fold-has_done : (y : X) (done xs : List X) → Contains done y → Contains (fold (insert_in_order R) done xs) y
-  fold-has_done y done [] h = h
-  fold-has_done y done (x ∷ xs) h = fold-has_done y (insert_in_order R done x) xs (insert-has x y done (Contains-more x y done h))
-
-  fold-has : (y : X) (done xs : List X) → Contains xs y → Contains (fold (insert_in_order R) done xs) y
-  fold-has y done [] (k, h, e) = absurd (omega arith)
-  fold-has y done (x ∷ xs) h =
-      Contains-cons (Contains (fold (insert_in_order R) (insert_in_order R done x) xs) y) x y xs h
-      (λ e. fold-has_done y (insert_in_order R done x) xs (insert-has x y done (subst (λ v. Contains (x ∷ done) v) e (Contains-here x done))))
-      (λ more. fold-has y (insert_in_order R done x) xs more)
-
-  in_order-has : (y : X) (xs : List X) → Contains xs y → Contains (in_order R xs) y
-  in_order-has y xs h = fold-has y [] xs h
 
 has_kind : (kind : Kind) → IsTemplate kind → Contains all_kinds kind
 has_kind = each_kind (Contains all_kinds) (λ place other h. Contains-get_or all_kinds place other h)
@@ -158,5 +131,6 @@ module _ (log : List (List ℕ)) (n : ℕ) (repertoire : Repertoire) (thresholds
   candidates_are s = (
     from_all (IsCandidate log n repertoire thresholds) (in_order priority_cmp (reaching log n repertoire thresholds)) s
         (in_order-all priority_cmp (IsCandidate log n repertoire thresholds) (reaching log n repertoire thresholds) reaching_all),
-    λ h. in_order-has priority_cmp s (reaching log n repertoire thresholds) (reaching_has s h),
+    λ h. Contains-permutation (reaching log n repertoire thresholds) (in_order priority_cmp (reaching log n repertoire thresholds)) s
+        (in_order-moves priority_cmp (reaching log n repertoire thresholds)) (reaching_has s h),
   )

@@ -1,12 +1,13 @@
 -- Lists in order: a list has one, and a sort finds it.
-use Rattle.std.proofs.Common.{◌≡◌, ℕ, suc, ◌+◌, ◌<◌, ◌≤◌, List, [], ◌∷◌, Bool, true, false, cond, length, get_or, count_by, fold, Less, Equal, Greater, Ordering, refl, sym, ap, ap₂, ◌∙◌, arith}
+use Rattle.std.proofs.Common.{◌≡◌, ℕ, suc, ◌+◌, ◌<◌, ◌≤◌, List, [], ◌∷◌, Bool, true, false, cond, length, get_or, count_by, fold, Less, Equal, Greater, Ordering, refl, sym, ap, ap₂, subst, ◌∙◌, arith, ◌++◌}
 use Rattle.std.specs.Bool.{⊤}
 use Rattle.std.specs.Cmp.{IsTotalOrder, upto, alike_right, tied_itself}
 use Rattle.std.specs.List.{AllByRecursion}
-use Rattle.std.specs.List.Sorted.{IsSortedBy, IsStrictlySortedBy}
+use Rattle.std.specs.List.Sorted.{IsPermutation, IsSortedBy, IsStrictlySortedBy}
 use Rattle.std.specs.Ordering.{is_lt, is_gt, is_eq, ordering_reverse, eq_by_cmp}
-use Rattle.std.proofs.lemmas.List.Elements.{recursion_from_All}
-use Rattle.std.proofs.lemmas.List.Sorted.{sorted_far, ranks_by}
+use Rattle.std.proofs.lemmas.List.{append-nil}
+use Rattle.std.proofs.lemmas.List.Elements.{recursion_from_All, All-from_recursion}
+use Rattle.std.proofs.lemmas.List.Sorted.{sorted_far, ranks_by, IsPermutation-refl, IsPermutation-trans, IsPermutation-cons, IsPermutation-append, IsPermutation-middle, All-permutation, sum_by-IsPermutation}
 use Rattle.std.proofs.lemmas.List.Sums.{sum_by-cons}
 use Rattle.scoring.specs.Priority.{insert_in_order, in_order}
 
@@ -26,38 +27,36 @@ module _ {X : Type 0} (R : X → X → Ordering) where
   Rises [] = ⊤
   Rises (x ∷ xs) = AllByRecursion (λ y. is_gt (R x y) ≡ false) xs × Rises xs
 
-  -- an insertion only adds
-  insert-count : (p : X → Bool) (x : X) (xs : List X) → count_by p (insert_in_order R xs x) ≡ count_by p (x ∷ xs)
-  insert-count p x [] = refl
-  insert-count p x (y ∷ ys) = go (is_lt (R x y)) (insert-count p x ys)
+  -- an insertion only adds, and the order only moves
+  insert-moves : (x : X) (xs : List X) → IsPermutation (x ∷ xs) (insert_in_order R xs x)
+  insert-moves x [] = IsPermutation-refl (x ∷ [])
+  insert-moves x (y ∷ ys) = go (is_lt (R x y)) (insert-moves x ys)
     where
-      go : (v : Bool) → count_by p (insert_in_order R ys x) ≡ count_by p (x ∷ ys) → count_by p (cond v (x ∷ y ∷ ys) (y ∷ insert_in_order R ys x)) ≡ count_by p (x ∷ y ∷ ys)
-      go true h = refl
-      go false h = omega (arith, h, count-cons p y (insert_in_order R ys x), count-cons p x (y ∷ ys), count-cons p y ys, count-cons p x ys)
+      go : (v : Bool) → IsPermutation (x ∷ ys) (insert_in_order R ys x) → IsPermutation (x ∷ y ∷ ys) (cond v (x ∷ y ∷ ys) (y ∷ insert_in_order R ys x))
+      go true h = IsPermutation-refl (x ∷ y ∷ ys)
+      go false h = IsPermutation-trans (x ∷ y ∷ ys) (y ∷ x ∷ ys) (y ∷ insert_in_order R ys x) (IsPermutation-middle (x ∷ []) y ys) (IsPermutation-cons y (x ∷ ys) (insert_in_order R ys x) h)
 
-  fold-count : (p : X → Bool) (done xs : List X) → count_by p (fold (insert_in_order R) done xs) ≡ count_by p done + count_by p xs
-  fold-count p done [] = omega arith
-  fold-count p done (x ∷ xs) =
-      omega (arith, fold-count p (insert_in_order R done x) xs, insert-count p x done, count-cons p x done, count-cons p x xs)
+  fold-moves : (done xs : List X) → IsPermutation (done ++ xs) (fold (insert_in_order R) done xs)
+  fold-moves done [] = subst (λ ys. IsPermutation ys done) (sym (append-nil done)) (IsPermutation-refl done)
+  fold-moves done (x ∷ xs) =
+      IsPermutation-trans (done ++ x ∷ xs) (x ∷ (done ++ xs)) (fold (insert_in_order R) done (x ∷ xs)) (IsPermutation-middle done x xs)
+      (IsPermutation-trans (x ∷ (done ++ xs)) (insert_in_order R done x ++ xs) (fold (insert_in_order R) (insert_in_order R done x) xs)
+      (IsPermutation-append (x ∷ done) (insert_in_order R done x) xs xs (insert-moves x done) (IsPermutation-refl xs)) (fold-moves (insert_in_order R done x) xs))
+
+  pub in_order-moves : (xs : List X) → IsPermutation xs (in_order R xs)
+  in_order-moves xs = fold-moves [] xs
 
   pub in_order-count : (p : X → Bool) (xs : List X) → count_by p (in_order R xs) ≡ count_by p xs
-  in_order-count p xs = omega (arith, fold-count p [] xs)
+  in_order-count p xs = sum_by-IsPermutation (λ y. cond (p y) 1 0) xs (in_order R xs) (in_order-moves xs)
 
-  module _ (P : X → Type 0) where
-    pub insert-all : (x : X) (xs : List X) → P x → AllByRecursion P xs → AllByRecursion P (insert_in_order R xs x)
-    insert-all x [] h all = (h, all)
-    insert-all x (y ∷ ys) h all = go (is_lt (R x y)) (insert-all x ys h all.1)
-      where
-        go : (v : Bool) → AllByRecursion P (insert_in_order R ys x) → AllByRecursion P (cond v (x ∷ y ∷ ys) (y ∷ insert_in_order R ys x))
-        go true rest = (h, all)
-        go false rest = (all.0, rest)
+  moved-all : (P : X → Type 0) (xs ys : List X) → IsPermutation xs ys → AllByRecursion P xs → AllByRecursion P ys
+  moved-all P xs ys moved all = recursion_from_All P ys (All-permutation P xs ys moved (All-from_recursion P xs all))
 
-    fold-all : (done xs : List X) → AllByRecursion P done → AllByRecursion P xs → AllByRecursion P (fold (insert_in_order R) done xs)
-    fold-all done [] h all = h
-    fold-all done (x ∷ xs) h all = fold-all (insert_in_order R done x) xs (insert-all x done all.0 h) all.1
+  pub insert-all : (P : X → Type 0) (x : X) (xs : List X) → P x → AllByRecursion P xs → AllByRecursion P (insert_in_order R xs x)
+  insert-all P x xs h all = moved-all P (x ∷ xs) (insert_in_order R xs x) (insert-moves x xs) (h, all)
 
-    pub in_order-all : (xs : List X) → AllByRecursion P xs → AllByRecursion P (in_order R xs)
-    in_order-all xs all = fold-all [] xs tt all
+  pub in_order-all : (P : X → Type 0) (xs : List X) → AllByRecursion P xs → AllByRecursion P (in_order R xs)
+  in_order-all P xs all = moved-all P xs (in_order R xs) (in_order-moves xs) all
 
   module _ (o : IsTotalOrder R) where
     not_after : (x y : X) → R x y ≡ Less → is_gt (R x y) ≡ false

@@ -1,5 +1,5 @@
 -- The candidates of a log.
-use Rattle.std.specs.Prelude.{◌≡◌, ℕ, ◌<◌, List, Bool, true, ◌&&◌, not, ◌==◌, nat_lt, nat_eq, length, map, filter}
+use Rattle.std.specs.Prelude.{◌≡◌, ℕ, ◌<◌, List, Bool, true, ◌&&◌, nat_eq, length, map, filter}
 use Rattle.std.specs.List.{range_with_len, flat_map}
 use Rattle.decl_base.specs.Fraction.{Fraction}
 use Rattle.decl_base.specs.Threshold.{is_met}

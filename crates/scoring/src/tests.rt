@@ -18,9 +18,15 @@ const ANY: Thresholds = Thresholds {
 };
 
 const SURE: Thresholds = Thresholds {
-    support: Threshold { millionths: 1_000_000 },
-    confidence: Threshold { millionths: 1_000_000 },
-    interest: Threshold { millionths: 1_000_000 },
+    support: Threshold {
+        millionths: 1_000_000,
+    },
+    confidence: Threshold {
+        millionths: 1_000_000,
+    },
+    interest: Threshold {
+        millionths: 1_000_000,
+    },
 };
 
 /// The trace aa, twice.
@@ -147,10 +153,24 @@ fn scores_of_one_trace(rt: HostRuntime) -> Result<(), Fail> {
 fn scores_of_several_traces(rt: HostRuntime) -> Result<(), Fail> {
     let alloc = rt.alloc();
     let limit = Limits::standard().candidates;
-    let list = candidates(alloc, &ab_and_c(alloc)?, &[0, 1, 2], Repertoire::First, &ANY, limit)?;
+    let list = candidates(
+        alloc,
+        &ab_and_c(alloc)?,
+        &[0, 1, 2],
+        Repertoire::First,
+        &ANY,
+        limit,
+    )?;
     let apart = [(1, 1), (1, 1), (1, 2)];
     has_scores(&rt, &list, &[(Kind::NotCoExistence, 0, 2, apart)]);
-    let list = candidates(alloc, &ab_a_and_c(alloc)?, &[0, 1, 2], Repertoire::First, &ANY, limit)?;
+    let list = candidates(
+        alloc,
+        &ab_a_and_c(alloc)?,
+        &[0, 1, 2],
+        Repertoire::First,
+        &ANY,
+        limit,
+    )?;
     let half = [(1, 2), (1, 3), (1, 9)];
     has_scores(&rt, &list, &[(Kind::Response, 0, 1, half)]);
     Ok(())
@@ -160,7 +180,14 @@ fn scores_of_several_traces(rt: HostRuntime) -> Result<(), Fail> {
 fn scores_of_the_second_repertoire(rt: HostRuntime) -> Result<(), Fail> {
     let alloc = rt.alloc();
     let limit = Limits::standard().candidates;
-    let list = candidates(alloc, &aba(alloc)?, &[0, 1], Repertoire::Second, &ANY, limit)?;
+    let list = candidates(
+        alloc,
+        &aba(alloc)?,
+        &[0, 1],
+        Repertoire::Second,
+        &ANY,
+        limit,
+    )?;
     has_scores(
         &rt,
         &list,
@@ -199,7 +226,14 @@ fn scores_of_the_second_repertoire(rt: HostRuntime) -> Result<(), Fail> {
 #[test]
 fn sure_of_the_second_repertoire(rt: HostRuntime) -> Result<(), Fail> {
     let alloc = rt.alloc();
-    let list = candidates(alloc, &aa_twice(alloc)?, &[0], Repertoire::Second, &SURE, 13)?;
+    let list = candidates(
+        alloc,
+        &aa_twice(alloc)?,
+        &[0],
+        Repertoire::Second,
+        &SURE,
+        13,
+    )?;
     let expected = [
         Kind::Init,
         Kind::End,

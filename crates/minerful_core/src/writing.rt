@@ -1,6 +1,6 @@
-ghost use Rattle.std.specs.Prelude.{◌≡◌, ◌<◌, length, All, IfOk, IfErr};
+ghost use Rattle.std.specs.Prelude.{◌≡◌, ◌<◌, length, count_by, All, IfOk, IfErr};
 ghost use Rattle.model_json.specs.Model.{AreOf};
-ghost use Rattle.model_json.specs.Report.{staying};
+ghost use Rattle.model_json.specs.Report.{is_tested};
 ghost use Rattle.template_core.specs.Constraints.{IsWellMadeFor};
 ghost use Rattle.minerful_core.specs.Outcome.{scores_text, consistent_text, model_text};
 
@@ -83,7 +83,7 @@ pub(crate) fn write_model(
     requires made { All (λ scored. IsWellMadeFor (length names.now.names) scored.constraint) list.now }
     requires repertoire { AreOf settings.now.repertoire list.now }
     requires decisions { length reduced.now.decisions ≡ length list.now }
-    requires witnesses { length reduced.now.witnesses ≡ length (staying list.now reduced.now.decisions) }
+    requires witnesses { length reduced.now.witnesses ≡ count_by is_tested reduced.now.decisions }
     requires witness { All (λ trace. All (λ rank. rank < length names.now.names) trace) reduced.now.witnesses }
     requires example { All (λ rank. rank < length names.now.names) reduced.now.example }
     ensures text { IfOk result (λ text. text.items ≡ model_text settings.now.out settings.now.repertoire list.now reduced.now names.now.names traces events) }

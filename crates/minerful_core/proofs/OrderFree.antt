@@ -11,13 +11,12 @@ use Rattle.minerful_words.specs.declared.settings.Command.TheVariants.{Mine, Kb,
 use Rattle.minerful_words.specs.declared.settings.Settings.{Settings}
 use Rattle.minerful_words.specs.declared.settings.Stage.{Stage}
 use Rattle.minerful_words.specs.declared.settings.Stage.TheVariants.{Consistent, Model, Scores}
-use Rattle.reduce_model.specs.Reduction.{IsReduction, Reduction, RefusesReduction}
-use Rattle.reduce_model.specs.Sifting.{IsSift, RefusesSift}
+use Rattle.reduce_model.specs.Reduction.{Reduction}
 use Rattle.report_text.specs.KbTable.{kb_text}
 use Rattle.scoring.specs.Candidates.{candidates_of}
 use Rattle.scoring.specs.declared.scored.Scored.{Scored}
 use Rattle.scoring.proofs.ByPair.{length-count}
-use Rattle.minerful_core.specs.Outcome.{LogText, Outcome, answers, candidates_in, consistent_text, constraints_in, model_text, refuses, scores_text, summary_text, text_of_log, IsLogOutcome, IsMinedOutcome, IsModelOutcome, IsReported, IsStageOutcome, IsTold}
+use Rattle.minerful_core.specs.Outcome.{LogText, Outcome, answers, candidates_in, consistent_text, constraints_in, model_text, refuses, scores_text, summary_text, text_of_log, IsLogOutcome, IsMinedOutcome, IsModelOutcome, IsReductionBy, IsReported, IsSiftBy, IsStageOutcome, IsTold, RefusesReductionBy, RefusesSiftBy}
 use Rattle.minerful_core.specs.SameTraces.{HoldTheSame}
 use Rattle.minerful_core.proofs.SameScores.{same_candidates, same_table}
 use Rattle.minerful_core.proofs.SameSums.{ranks_alike, same_events, same_names, same_sums}
@@ -48,9 +47,9 @@ module _ (log other : List (List (List ℕ))) (h : HoldTheSame log other) where
       ∙ ap (λ n. text (sorted_names other) n (length (events_of log))) same_traces
       ∙ ap (text (sorted_names other) (length other)) (same_events log other h)
 
-  model_same : (text : Reduction → LogText) (states : ℕ) (list : List Scored) (o : Outcome) → IsModelOutcome text states list log o → IsModelOutcome text states list other o
-  model_same text states list o is =
-      reported_same (λ n reduction. IsReduction n states (constraints_in list) reduction) (λ n r. RefusesReduction n states (constraints_in list) r)
+  model_same : (keep : Bool) (text : Reduction → LogText) (states : ℕ) (list : List Scored) (o : Outcome) → IsModelOutcome keep text states list log o → IsModelOutcome keep text states list other o
+  model_same keep text states list o is =
+      reported_same (λ n reduction. IsReductionBy keep n states (constraints_in list) reduction) (λ n r. RefusesReductionBy keep n states (constraints_in list) r)
       (λ reduction. text_of_log (text reduction) log) (λ reduction. text_of_log (text reduction) other) (length (sorted_names log)) (length (sorted_names other)) (ap length (same_names log other h))
       (λ reduction. told_same (text reduction)) o is
 
@@ -58,10 +57,10 @@ module _ (log other : List (List (List ℕ))) (h : HoldTheSame log other) where
   stage_same Scores s list o is = is ∙ ap (answers status.Done) (told_same (scores_text s.out s.repertoire list))
   stage_same Consistent s list o is =
       let text = consistent_text s.out s.repertoire list in
-      reported_same (λ n sifting. IsSift n s.states (constraints_in list) sifting) (λ n r. RefusesSift n s.states (constraints_in list) r)
+      reported_same (λ n sifting. IsSiftBy s.keep n s.states (constraints_in list) sifting) (λ n r. RefusesSiftBy s.keep n s.states (constraints_in list) r)
       (λ sifting. text_of_log (text sifting) log) (λ sifting. text_of_log (text sifting) other) (length (sorted_names log)) (length (sorted_names other)) (ap length (same_names log other h))
       (λ sifting. told_same (text sifting)) o is
-  stage_same Model s list o is = model_same (model_text s.out s.repertoire list) s.states list o is
+  stage_same Model s list o is = model_same s.keep (model_text s.out s.repertoire list) s.states list o is
 
   mined_same : (Is : List Scored → List (List (List ℕ)) → Outcome → Type 0) (s : Settings) (o : Outcome) → ((list : List Scored) → Is list log o → Is list other o) → IsMinedOutcome Is s log o → IsMinedOutcome Is s other o
   mined_same Is s o same is =
@@ -74,7 +73,7 @@ module _ (log other : List (List (List ℕ))) (h : HoldTheSame log other) where
       is ∙ ap (λ names. answers status.Done (kb_text names (by_ranks log))) (same_names log other h)
       ∙ ap (answers status.Done) (same_table (by_ranks log) (by_ranks other) (ranks_alike log other h) (sorted_names other))
   outcome_same Mine s o is = mined_same (IsStageOutcome s.stage s) s o (λ list. stage_same s.stage s list o) is
-  outcome_same Sample s o is = mined_same (IsModelOutcome (summary_text s.seed) s.states) s o (λ list. model_same (summary_text s.seed) s.states list o) is
+  outcome_same Sample s o is = mined_same (IsModelOutcome false (summary_text s.seed) s.states) s o (λ list. model_same false (summary_text s.seed) s.states list o) is
   outcome_same Check s o is = absurd is
   outcome_same Gen s o is = absurd is
   outcome_same Regex s o is = absurd is

@@ -27,7 +27,7 @@ reported_same IsAnswer Refuses text_of other_text n m same texts (answers s text
     (h.0, subst (λ k. IsAnswer k h.0) same h.1, h.2 ∙ ap (answers status.Done) (texts h.0))
 reported_same IsAnswer Refuses text_of other_text n m same texts (refuses r) h = subst (λ k. IsTold (Refuses k) r) same h
 
-second_same : (b : Bool) (P Q R : Type 0) → (Q → R) → MatchBool b P Q → MatchBool b P R
+pub second_same : (b : Bool) (P Q R : Type 0) → (Q → R) → MatchBool b P Q → MatchBool b P R
 second_same true P Q R more h = h
 second_same false P Q R more h = more h
 

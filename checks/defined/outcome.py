@@ -7,7 +7,7 @@ from defined.expressions import expression, matches
 from defined.generator import SAMPLE, generated
 from defined.logs import csv_log, string_log
 from defined.models import check, model_of
-from defined.reduction import Searches, reduced, without
+from defined.reduction import Searches, reduced, reduced_within, without
 from defined.refusals import Refused
 from defined.scores import candidates
 from defined.words import settings
@@ -113,6 +113,8 @@ class Definitions:
             told = {"dropped": dropped, "example": searches.least_trace(model.kept)}
         if given["stage"] == "model":
             for each in listed:
+                each.untested = each.constraint in model.untested
+            for each in [each for each in listed if not each.untested]:
                 each.witness = searches.least_trace(without(model.kept, each.constraint), each.constraint)
         if given["out"] == "table":
             return texts.model_table(names, listed, given["stage"] == "model")
@@ -128,7 +130,8 @@ class Definitions:
         searches = Searches(len(names), self.traces_tried)
         self.counted.append(searches)
         constraints = [constraint for constraint, _ in scored]
-        return scored, reduced(constraints, given["stage"], searches, given["max-states"]), searches
+        steps = reduced_within if given["on-limit"] == "keep" else reduced
+        return scored, steps(constraints, given["stage"], searches, given["max-states"]), searches
 
     def checked(self, given, read):
         """Differs where some trace breaks some constraint."""

@@ -82,6 +82,8 @@ class Model:
     above: dict = field(default_factory=dict)
     # Each list that the second pass asks about, in the order of the questions.
     asked: list = field(default_factory=list)
+    # Those that stay without a witness, since a list of their tests is wide.
+    untested: set = field(default_factory=set)
 
 
 def sift(model, candidates, searches):
@@ -144,6 +146,72 @@ def built_lists(model, stage):
         phases.append([prefix for each in others for prefix in with_all_prefixes(each)])
     for phase, lists in enumerate(phases, 1):
         yield from ((phase, constraints) for constraints in lists)
+
+
+class Within:
+    """The steps within a limit on states: where a list is wide, a constraint is left out, or isn't tested."""
+
+    def __init__(self, searches, states):
+        self.searches, self.states = searches, states
+        self.closed = set()
+
+    def is_wide(self, constraints):
+        return told_apart(self.searches.size, constraints) > self.states
+
+    def is_closed(self, constraints):
+        return any(map(self.is_wide, with_all_prefixes(constraints)))
+
+    def sift(self, model, candidates):
+        for constraint in candidates:
+            joined = model.conflict_free + [constraint]
+            if self.searches.least_trace(joined) is None:
+                model.why[constraint] = "conflict"
+            elif self.is_wide(joined):
+                model.why[constraint] = "beyond"
+            else:
+                model.conflict_free.append(constraint)
+
+    def first_pass(self, model):
+        """Those that stay are all asked for later, but one that would make the list wide doesn't join it."""
+        joined = []
+        for constraint in model.unpruned:
+            if self.searches.implies(joined, constraint):
+                model.why[constraint] = "first-pass"
+                continue
+            model.after_first_pass.append(constraint)
+            if not self.is_wide(joined + [constraint]):
+                joined.append(constraint)
+
+    def second_pass(self, model):
+        behind = []
+        for place in reversed(range(len(model.after_first_pass))):
+            constraint = model.after_first_pass[place]
+            others = model.after_first_pass[:place] + behind
+            if self.is_closed(others):
+                self.closed.add(constraint)
+            elif self.searches.implies(others, constraint):
+                model.why[constraint] = "second-pass"
+                continue
+            behind = [constraint] + behind
+        model.kept = behind
+
+    def mark(self, model):
+        others = {constraint: without(model.kept, constraint) for constraint in model.kept}
+        model.untested = {each for each in model.kept if each in self.closed or self.is_closed(others[each])}
+
+
+def reduced_within(candidates, stage, searches, states):
+    """The model of a stage, which goes on where a list tells more traces apart than `states`."""
+    model, within = Model(), Within(searches, states)
+    within.sift(model, candidates)
+    if stage == "model":
+        prune(model)
+        within.first_pass(model)
+        within.second_pass(model)
+        within.mark(model)
+    else:
+        model.kept = model.conflict_free
+    return model
 
 
 def reduced(candidates, stage, searches, states):

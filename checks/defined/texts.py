@@ -28,15 +28,18 @@ def scored_value(constraint, scored, names):
 
 @dataclass
 class Listed:
-    """A constraint that a report lists: with its scores and, at stage `model`, its witness."""
+    """A constraint that a report lists: with its scores and, at stage `model`, its witness, or that it's untested."""
 
     constraint: tuple
     scores: tuple
     witness: tuple | None = None
+    untested: bool = False
 
 
 def listed_value(each, names):
     value = scored_value(each.constraint, each.scores, names)
+    if each.untested:
+        value["untested"] = True
     return value if each.witness is None else value | {"witness": named(each.witness, names)}
 
 
@@ -80,7 +83,7 @@ def model_table(names, listed, with_witnesses):
     for each in listed:
         rest = constraint_text(each.constraint, names)
         if with_witnesses:
-            rest += " " + quoted(named(each.witness, names))
+            rest += " " + ("-" if each.untested else quoted(named(each.witness, names)))
         text += columns(12, [f"{score.numerator}/{score.denominator}" for score in each.scores], rest)
     return text.encode()
 

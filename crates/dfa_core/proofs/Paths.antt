@@ -1,16 +1,15 @@
 -- The least traces to the states that a search found.
-use Rattle.std.proofs.Common.{◌≡◌, ◌⊎◌, inl, inr, ℕ, zero, suc, ◌+◌, ◌*◌, ◌/◌, ◌%◌, ◌<◌, ◌≤◌, List, [], ◌∷◌, ◌++◌, Bool, true, false, map, reverse, take, length, get_or, refl, sym, ap, ◌∙◌, arith, append_assoc}
-use Rattle.std.proofs.lemmas.List.{append-nil, reverse-append, get_or-map, take_all}
+use Rattle.std.proofs.Common.{◌≡◌, ◌⊎◌, inl, inr, ℕ, zero, suc, ◌+◌, ◌*◌, ◌/◌, ◌%◌, ◌<◌, ◌≤◌, List, [], ◌∷◌, ◌++◌, true, false, reverse, length, get_or, refl, sym, ap, ◌∙◌, arith, append_assoc}
+use Rattle.std.proofs.lemmas.List.{append-nil, reverse-append}
 use Rattle.std.proofs.lemmas.Nat.{div_below, div-add-mod', mul-add-lt}
 use Rattle.std.proofs.lemmas.Bool.{cases_eq, cases_lt}
 use Rattle.std.proofs.Math.Nat.{mul-le-mul_right, mul_comm, mod-lt}
 use Rattle.dfa_core.specs.Steps.{Steps, Accepts, accepts, run}
-use Rattle.dfa_core.specs.Automaton.{Automaton, automaton, IsBreadthFirst, IsReachable, IsWhole, step, steps_of}
 use Rattle.dfa_core.specs.Languages.{HasNoMember, IsLeastMember}
-use Rattle.dfa_core.specs.Searching.{IsExplored, IsSearch, path}
+use Rattle.dfa_core.specs.Searching.{IsSearch, path}
 use Rattle.dfa_core.specs.Shortlex.{IsBefore, IsAtMost}
 use Rattle.dfa_core.specs.Traces.{IsTrace}
-use Rattle.dfa_core.proofs.Runs.{run-append, run-bound}
+use Rattle.dfa_core.proofs.Runs.{run-append}
 use Rattle.dfa_core.proofs.Shortlex.{before-append, before-last, before-nil, at_most_trans, at_most-append, at_most-longer, not_before}
 
 trace-push : (n : ℕ) (w : List ℕ) (x : ℕ) → IsTrace n w → x < n → IsTrace n (w ++ x ∷ [])
@@ -55,16 +54,16 @@ path_more s found n t whole rest h p l e =
     e ∙ (rw (path-found s found n h t p l, reverse-append rest ((get_or found t 0 % s) ∷ [])) (append_assoc (path s found (get_or found t 0 / s) (get_or found t 0 / s)) ((get_or found t 0 % s) ∷ []) (reverse rest)))
 
 -- a trace, from where another leads, that leads to a number, and the path to that is at most both
-record IsMet (a : Steps) (states found : List ℕ) (q : ℕ) (u w : List ℕ) : Type 0 where
-  number : ℕ
-  bound : number < length states
-  is : run a q w ≡ get_or states number 0
-  least : IsAtMost (path a.symbols found number number) (u ++ w)
+pub record IsMet (a : Steps) (states found : List ℕ) (q : ℕ) (u w : List ℕ) : Type 0 where
+  pub number : ℕ
+  pub bound : number < length states
+  pub is : run a q w ≡ get_or states number 0
+  pub least : IsAtMost (path a.symbols found number number) (u ++ w)
 
 -- a trace that takes a step that wasn't followed: all that was found stands before it
-record IsBehind (a : Steps) (states found : List ℕ) (done : ℕ) (w : List ℕ) : Type 0 where
-  more : done < length states * a.symbols
-  after : (t : ℕ) → t < length states → IsAtMost (path a.symbols found t t) w
+pub record IsBehind (a : Steps) (states found : List ℕ) (done : ℕ) (w : List ℕ) : Type 0 where
+  pub more : done < length states * a.symbols
+  pub after : (t : ℕ) → t < length states → IsAtMost (path a.symbols found t t) w
 
 module _ (a : Steps) (states found : List ℕ) (done : ℕ) (h : IsSearch a states found done) where
   -- the step by which a number was found
@@ -104,7 +103,7 @@ module _ (a : Steps) (states found : List ℕ) (done : ℕ) (h : IsSearch a stat
   unfolding to
   to-found t p l = path-found a.symbols found (length states) h.found_earlier t p l
 
-  to-over : (n t : ℕ) → t ≤ n → t < length states → IsTrace a.symbols (to t)
+  pub to-over : (n t : ℕ) → t ≤ n → t < length states → IsTrace a.symbols (to t)
   to-over n zero hn l = rw to-zero tt
   to-over zero (suc t) hn l = absurd (omega arith)
   to-over (suc n) (suc t) hn l =
@@ -112,7 +111,7 @@ module _ (a : Steps) (states found : List ℕ) (done : ℕ) (h : IsSearch a stat
       rw (to-found (suc t) (omega arith) l) (trace-push a.symbols (to (parent (suc t))) (symbol (suc t)) (to-over n (parent (suc t)) (omega arith) (omega arith)) (symbol_below (suc t) (omega arith) l))
 
   -- the path to a number leads to its state
-  to-state : (n t : ℕ) → t ≤ n → t < length states → run a a.start (to t) ≡ get_or states t 0
+  pub to-state : (n t : ℕ) → t ≤ n → t < length states → run a a.start (to t) ≡ get_or states t 0
   to-state n zero hn l = rw to-zero (sym h.first)
   to-state zero (suc t) hn l = absurd (omega arith)
   to-state (suc n) (suc t) hn l =
@@ -121,7 +120,7 @@ module _ (a : Steps) (states found : List ℕ) (done : ℕ) (h : IsSearch a stat
       (run-append a a.start (to (parent (suc t))) (symbol (suc t) ∷ [])
       ∙ (ap (λ q. a.next q (symbol (suc t))) (to-state n (parent (suc t)) (omega arith) (omega arith)) ∙ h.found_there (suc t) (omega arith) l))
 
-  to-in_order : (n q r : ℕ) → r ≤ n → q < r → r < length states → IsBefore (to q) (to r)
+  pub to-in_order : (n q r : ℕ) → r ≤ n → q < r → r < length states → IsBefore (to q) (to r)
   to-in_order zero q r hn lt l = absurd (omega arith)
   to-in_order (suc n) zero r hn lt l = rw (to-zero, to-found r lt l) (before-nil (to (parent r)) (symbol r))
   to-in_order (suc n) (suc q) r hn lt l = go (rows_in_order (parent (suc q)) (symbol (suc q)) (parent r) (symbol r) (symbol_below (suc q) pq lq) (symbol_below r pr l) below) (to-in_order n (parent (suc q)) (parent r) (omega (arith, br)))
@@ -189,7 +188,7 @@ module _ (a : Steps) (states found : List ℕ) (done : ℕ) (h : IsSearch a stat
     })
   ]
 
-  from_start : (w : List ℕ) → IsTrace a.symbols w → IsMet a states found a.start [] w ⊎ IsBehind a states found done w
+  pub from_start : (w : List ℕ) → IsTrace a.symbols w → IsMet a states found a.start [] w ⊎ IsBehind a states found done w
   unfolding to
   from_start w tw = rw h.first at (met_or_behind 0 [] w h.some tw (inl to-zero))
 
@@ -221,69 +220,3 @@ module _ (a : Steps) (states found : List ℕ) (done : ℕ) (h : IsSearch a stat
     | inl m ↦ let no : accepts a w ≡ false = ap a.accepting m.is ∙ none m.number m.bound in absurd (cc (no, is))
     | inr b ↦ let more = b.more in absurd (omega arith)
   ]
-
--- a loop that has asked of each state whether it is accepting
-pub all-taken : (a : Steps) (states items : List ℕ) (accepting : List Bool) (k : ℕ) → accepting ≡ map a.accepting (take k items) → length items ≤ k → items ≡ states → accepting ≡ map a.accepting states
-all-taken a states items accepting k e le same = e ∙ ap (map a.accepting) (take_all k items le ∙ same)
-
--- the table of a search that is over
-module _ (a : Steps) (states next : List ℕ) (accepting : List Bool) (h : IsExplored a states next) (e : length accepting ≡ length states) where
-  abbrev r : Automaton
-  r = automaton a.symbols 0 next accepting
-
-  abbrev least_to : ℕ → List ℕ
-  least_to = to a states h.found (length states * a.symbols) h.search
-
-  in_table : (t x : ℕ) → t < length states → x < a.symbols → t * a.symbols + x < length next
-  in_table t x lt lx = let b = mul-add-lt t a.symbols x (length states) lt lx in let c = mul_comm a.symbols (length states) in omega (arith, h.table_length)
-
-  pub whole-explored : IsWhole r
-  unfolding step
-  whole-explored = record {
-    start_bound = omega (arith, h.search.some, e);
-    few_states = omega (arith, h.few, h.fits, e);
-    table_length = h.table_length ∙ ap (λ (n : ℕ). n * a.symbols) (sym e);
-    step_bound = λ q x lq lx. let b = h.entries.bound q x lx (in_table q x (omega (arith, e, lq)) lx) in omega (arith, e, b);
-  }
-
-  -- the state that a number stands for goes along with a run
-  states-run : (t : ℕ) (w : List ℕ) → t < length states → IsTrace a.symbols w → get_or states (run (steps_of r) t w) 0 ≡ run a (get_or states t 0) w
-  unfolding step
-  states-run t [] l tw = refl
-  states-run t (x ∷ w) l tw =
-      states-run (step r t x) w (h.entries.bound t x tw.0 (in_table t x l tw.0)) tw.1 ∙ ap (λ q. run a q w) (h.entries.are t x tw.0 (in_table t x l tw.0))
-
-  state-run : (w : List ℕ) → IsTrace a.symbols w → get_or states (run (steps_of r) 0 w) 0 ≡ run a a.start w
-  state-run w tw = states-run 0 w h.search.some tw ∙ ap (λ q. run a q w) h.search.first
-
-  run-in : (w : List ℕ) → IsTrace a.symbols w → run (steps_of r) 0 w < length states
-  run-in w tw = omega (arith, e, run-bound r whole-explored 0 w (omega (arith, e, h.search.some)) tw)
-
-  breadth_first-explored : IsBreadthFirst r
-  unfolding to
-  breadth_first-explored = record {
-    to = least_to;
-    over = λ q l. to-over a states h.found (length states * a.symbols) h.search q q (omega arith) (omega (arith, e, l));
-    reached = λ q l.
-        let lq : q < length states = omega (arith, e, l) in
-        let tw = to-over a states h.found (length states * a.symbols) h.search q q (omega arith) lq in
-        h.search.distinct (run (steps_of r) 0 (least_to q)) q (run-in (least_to q) tw) lq
-        (state-run (least_to q) tw ∙ to-state a states h.found (length states * a.symbols) h.search q q (omega arith) lq);
-    least = λ w tw. elim (from_start a states h.found (length states * a.symbols) h.search w tw) [
-      | inl m ↦
-          let same : run (steps_of r) 0 w ≡ m.number = h.search.distinct (run (steps_of r) 0 w) m.number (run-in w tw) m.bound (state-run w tw ∙ m.is) in
-          rw same m.least
-      | inr b ↦ absurd (omega (arith, b.more))
-    ];
-    in_order = λ q s lt l. to-in_order a states h.found (length states * a.symbols) h.search s q s (omega arith) lt (omega (arith, e, l));
-  }
-
-  pub reachable-explored : accepting ≡ map a.accepting states → IsReachable a r
-  reachable-explored ac = record {
-    over = refl;
-    same = λ w tw. ap (λ (l : List Bool). get_or l (run (steps_of r) 0 w) false) ac ∙ (get_or-map a.accepting states (run (steps_of r) 0 w) 0 false (run-in w tw) ∙ ap a.accepting (state-run w tw));
-    one_for_state = λ u w tu tw same. h.search.distinct (run (steps_of r) 0 u) (run (steps_of r) 0 w) (run-in u tu) (run-in w tw) (state-run u tu ∙ (same ∙ sym (state-run w tw)));
-    few = omega (arith, h.few, e);
-    whole = whole-explored;
-    in_order = breadth_first-explored;
-  }

@@ -4,24 +4,34 @@ use Rattle.dfa_core.specs.Shortlex.{IsBefore, IsAtMost}
 use Rattle.dfa_core.specs.Steps.{Steps, run as run_of, accepts as accepts_of}
 use Rattle.dfa_core.specs.Traces.{IsTrace}
 
--- a table of states, row after row, with one entry for each symbol
+-- Each symbol has a column. A table of states has, row after row, one entry for each column.
 pub record Automaton : Type 0 where
   pub symbols : ℕ
+  pub columns : List ℕ
+  pub width : ℕ
   pub start : ℕ
   pub next : List ℕ
   pub accepting : List Bool
 
--- the automaton of its four parts
-abbrev pub automaton : ℕ → ℕ → List ℕ → List Bool → Automaton
-automaton symbols start next accepting = record { symbols = symbols; start = start; next = next; accepting = accepting }
+-- The automaton of its parts. It has as many symbols as there are columns of symbols.
+abbrev pub automaton : List ℕ → ℕ → ℕ → List ℕ → List Bool → Automaton
+automaton columns width start next accepting = record { symbols = length columns; columns = columns; width = width; start = start; next = next; accepting = accepting }
 
 -- as many states as there are marks of acceptance
 abbrev pub state_count : Automaton → ℕ
 state_count a = length a.accepting
 
+-- the column of a symbol
+abbrev pub column : Automaton → ℕ → ℕ
+column a x = get_or a.columns x 0
+
+-- the state after a symbol of a column
+unfoldable pub step_column : Automaton → ℕ → ℕ → ℕ
+step_column a q c = get_or a.next (q * a.width + c) 0
+
 -- the state after a symbol
 unfoldable pub step : Automaton → ℕ → ℕ → ℕ
-step a q x = get_or a.next (q * a.symbols + x) 0
+step a q x = step_column a q (column a x)
 
 -- whether a trace that ends at the state is accepted
 abbrev pub is_accepting : Automaton → ℕ → Bool
@@ -43,12 +53,15 @@ accepts a = accepts_of (steps_of a)
 abbrev pub Accepts : Automaton → List ℕ → Type 0
 Accepts a w = accepts a w ≡ true
 
--- the start and each entry of the table is a state
+-- the column of each symbol is one of the table's, and the start and each entry of the table is a state
 pub record IsWhole (a : Automaton) : Type 0 where
   pub start_bound : a.start < state_count a
   pub few_states : state_count a < 2 ^ 32
-  pub table_length : length a.next ≡ state_count a * a.symbols
-  pub step_bound : (q x : ℕ) → q < state_count a → x < a.symbols → step a q x < state_count a
+  pub few_symbols : a.symbols < 2 ^ 32
+  pub few_columns : a.width < 2 ^ 32
+  pub column_bound : (x : ℕ) → x < a.symbols → column a x < a.width
+  pub table_length : length a.next ≡ state_count a * a.width
+  pub entry_bound : (q c : ℕ) → q < state_count a → c < a.width → step_column a q c < state_count a
 
 -- one state, and every trace is accepted
 pub record IsEverything (symbols : ℕ) (a : Automaton) : Type 0 where

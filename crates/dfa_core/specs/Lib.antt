@@ -4,5 +4,7 @@ pub mod Shortlex
 pub mod Languages
 pub mod Steps
 pub mod Automaton
+pub mod Columns
 -- Internal: what clauses of private functions speak of.
+pub mod Grouping
 pub mod Searching

@@ -1,11 +1,13 @@
 ghost use Rattle.std.specs.Prelude.{◌≡◌, ◌<◌, IfOk, IfErr};
 ghost use Rattle.dfa_core.specs.Automaton.{IsReachable, steps_of};
+ghost use Rattle.dfa_core.specs.Columns.{HasColumns};
 ghost use Rattle.dfa_core.specs.Languages.{IsLeastIfAny};
 ghost use Rattle.dfa_core.specs.Searching.{IsExplored};
 ghost use Rattle.dfa_core.specs.Steps.{Steps, Accepts};
 
-use crate::Dfa;
+use crate::columns::{ByColumns, Grouping};
 use crate::search::Search;
+use crate::{Columned, Dfa};
 use decl_base::{Refusal, Trace};
 use std::alloc::Global;
 
@@ -70,21 +72,52 @@ fn explore<S: System>(alloc: Global, system: &S) -> Result<Explored, Refusal>
     Ok(Explored { states, next })
 }
 
-/// The automaton of what can be reached from the system's start. Its states are in breadth-first order.
-pub fn reachable<S: System>(alloc: Global, system: &S) -> Result<Dfa, Refusal>
+/// The automaton of what can be reached from the system's start. Its states are in breadth-first order, and each of its columns is that of some
+/// symbol.
+pub fn reachable<S: Columned>(alloc: Global, system: &S) -> Result<Dfa, Refusal>
     ensures ok { IfOk result (IsReachable (S.steps system.now)) }
+    ensures columns { IfOk result (HasColumns (S.columns system.now)) }
     ensures err { IfErr result (λ e. e ≡ Refusal.Memory) }
 {
-    let Explored { states, next } = explore(alloc, system)?;
+    let grouping = Grouping::of(alloc, system)?;
+    let Explored { states, next } = explore(
+        alloc,
+        &ByColumns {
+            system,
+            grouping: &grouping,
+        },
+    )?;
     let mut accepting = Vec::new(alloc);
     for state in &states {
         accepting.push(system.accepting(*state))?;
     }
-    Ok(Dfa::of(system.symbols(), 0, next, accepting))
+    let Grouping {
+        of,
+        least,
+        numbers: _,
+    } = grouping;
+    Ok(Dfa::of(of, least.len() as u32, 0, next, accepting))
 }
 
-/// The least trace in shortlex order that the system accepts. The search ends as soon as it finds an accepting state.
-pub fn first_accepted<S: System>(alloc: Global, system: &S) -> Result<Option<Trace>, Refusal>
+/// The least trace in shortlex order that the system accepts. The search goes over columns, each by its least symbol, and ends as soon as it finds
+/// an accepting state.
+pub fn first_accepted<S: Columned>(alloc: Global, system: &S) -> Result<Option<Trace>, Refusal>
+    ensures ok { IfOk result (IsLeastIfAny (S.steps system.now).symbols (Accepts (S.steps system.now))) }
+    ensures err { IfErr result (λ e. e ≡ Refusal.Memory) }
+{
+    let grouping = Grouping::of(alloc, system)?;
+    let columns = ByColumns {
+        system,
+        grouping: &grouping,
+    };
+    match first_found(alloc, &columns)? {
+        Some(found) => Ok(Some(grouping.least_trace(alloc, found.events())?)),
+        None => Ok(None),
+    }
+}
+
+/// The least trace that the system accepts, by a search over all symbols.
+fn first_found<S: System>(alloc: Global, system: &S) -> Result<Option<Trace>, Refusal>
     ensures ok { IfOk result (IsLeastIfAny (S.steps system.now).symbols (Accepts (S.steps system.now))) }
     ensures err { IfErr result (λ e. e ≡ Refusal.Memory) }
 {

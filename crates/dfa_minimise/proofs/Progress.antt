@@ -1,6 +1,6 @@
 -- What holds while loops go on.
 use Rattle.std.specs.Prelude.{◌≡◌, ℕ, ◌<◌, ◌≤◌, ◌*◌, ◌+◌, List, Option, None, Some, MatchOption, length, slice_index_or as get_or}
-use Rattle.dfa_core.specs.Automaton.{Automaton, state_count, step}
+use Rattle.dfa_core.specs.Automaton.{Automaton, state_count, step_column}
 use Rattle.dfa_minimise.specs.Partitions.{IsRefinable, MarksFit, is_in, is_marked}
 use Rattle.dfa_minimise.specs.Preimages.{IsGreatest}
 use Rattle.dfa_minimise.specs.declared.refinable.Refinable.{Refinable}
@@ -33,18 +33,20 @@ pub record IsCutSoFar (old now : Refinable) (touched : List ℕ) (at : ℕ) : Ty
   pub done : (j : ℕ) → j < at → get_or now.marked.items (get_or now.class.items (get_or touched j 0) 0) 0 ≡ 0
   pub stays : (q : ℕ) → q < length old.class.items → get_or now.class.items q 0 < length old.first.items → get_or now.class.items q 0 ≡ get_or old.class.items q 0
 
--- where a symbol leads two states of one class into classes below a number, it leads them into one class
+-- where a column leads two states of one class into classes below a number, it leads them into one class
 pub record IsStableBelow (a : Automaton) (class : List ℕ) (count : ℕ) : Type 0 where
-  pub stable : (q r x : ℕ) → q < state_count a → r < state_count a → x < a.symbols → get_or class q 0 ≡ get_or class r 0
-      → get_or class (step a q x) 0 < count → get_or class (step a r x) 0 < count → get_or class (step a q x) 0 ≡ get_or class (step a r x) 0
+  pub stable : (q r k : ℕ) → q < state_count a → r < state_count a → k < a.width → get_or class q 0 ≡ get_or class r 0
+      → get_or class (step_column a q k) 0 < count → get_or class (step_column a r k) 0 < count → get_or class (step_column a q k) 0 ≡ get_or class (step_column a r k) 0
 
--- what holds while the cells are filled, up to a state and a symbol
-pub record AreFilled (a : Automaton) (state symbol : ℕ) (last before : List (Option ℕ)) : Type 0 where
-  pub last_length : length last ≡ state_count a * a.symbols
-  pub before_length : length before ≡ state_count a * a.symbols
-  pub last_done : (t x : ℕ) → t < state_count a → x < a.symbols → x < symbol → IsGreatest a x t (state + 1) (get_or last (t * a.symbols + x) None)
-  pub last_open : (t x : ℕ) → t < state_count a → x < a.symbols → symbol ≤ x → IsGreatest a x t state (get_or last (t * a.symbols + x) None)
-  pub before_of : (q x : ℕ) → q < state_count a → x < a.symbols → q * a.symbols + x < state * a.symbols + symbol → IsGreatest a x (step a q x) q (get_or before (q * a.symbols + x) None)
+-- what holds while the cells are filled, up to a column and a state
+pub record AreFilled (a : Automaton) (column state : ℕ) (last before : List (Option ℕ)) : Type 0 where
+  pub last_length : length last ≡ a.width * state_count a
+  pub before_length : length before ≡ a.width * state_count a
+  pub last_done : (k t : ℕ) → k < a.width → t < state_count a → k < column → IsGreatest a k t (state_count a) (get_or last (k * state_count a + t) None)
+  pub last_at : (k t : ℕ) → k < a.width → t < state_count a → k ≡ column → IsGreatest a k t state (get_or last (k * state_count a + t) None)
+  pub last_open : (k t : ℕ) → k < a.width → t < state_count a → column < k → IsGreatest a k t 0 (get_or last (k * state_count a + t) None)
+  pub before_of : (k q : ℕ) → k < a.width → q < state_count a → k * state_count a + q < column * state_count a + state
+      → IsGreatest a k (step_column a q k) q (get_or before (k * state_count a + q) None)
 
 -- one above a number, where there is one
 abbrev pub after : Option ℕ → ℕ
@@ -53,4 +55,4 @@ after (Some g) = g + 1
 
 -- a state at which a walk goes on
 abbrev pub LeadsTo : Automaton → ℕ → ℕ → Option ℕ → Type 0
-LeadsTo a x target o = MatchOption o (Unit {0}) (λ g. (g < state_count a) × (step a g x ≡ target))
+LeadsTo a k target o = MatchOption o (Unit {0}) (λ g. (g < state_count a) × (step_column a g k ≡ target))

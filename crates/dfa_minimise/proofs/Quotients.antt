@@ -1,9 +1,11 @@
 -- What the classes' automaton accepts, and that its states are told apart.
-use Rattle.std.proofs.Common.{◌≡◌, ℕ, ◌<◌, List, [], ◌∷◌, ◌++◌, get_or, refl, sym, ap, ◌∙◌, subst}
+use Rattle.std.proofs.Common.{◌≡◌, ℕ, ◌<◌, ◌≤◌, List, [], ◌∷◌, ◌++◌, get_or, refl, sym, ap, ◌∙◌, subst, arith}
 use Rattle.dfa_core.specs.Traces.{IsTrace}
-use Rattle.dfa_core.specs.Automaton.{Automaton, IsReachable, IsWhole, SameLanguage, is_accepting, state_count, step, steps_of}
+use Rattle.dfa_core.specs.Automaton.{Automaton, IsReachable, IsWhole, SameLanguage, column, is_accepting, state_count, step, step_column, steps_of}
+use Rattle.dfa_core.specs.Columns.{AreColumns, HasColumns, columns_of}
+use Rattle.dfa_core.proofs.ColumnCounts.{few-columns}
 use Rattle.dfa_core.specs.Steps.{Steps, accepts, run}
-use Rattle.dfa_core.proofs.Runs.{run-append, run-bound}
+use Rattle.dfa_core.proofs.Runs.{run-append, run-bound, step_bound}
 use Rattle.dfa_minimise.specs.Classes.{IsEquivalence, quotient}
 use Rattle.dfa_minimise.specs.Least.{IsLeast}
 
@@ -17,11 +19,13 @@ module _ (a : Automaton) (class members : List ℕ) (whole : IsWhole a) (h : IsE
 
   -- the class goes along with the run
   pub run-class : (q : ℕ) (w : List ℕ) → q < state_count a → IsTrace a.symbols w → run g (get_or class q 0) w ≡ get_or class (run (steps_of a) q w) 0
+  unfolding step
   run-class q [] lq tw = refl
   run-class q (x ∷ w) lq tw =
       let p = h.partition in
       let lc = p.class_bound q lq in
-      ap (λ c. run g c w) (h.stable (get_or members (get_or class q 0) 0) q x (p.member_bound (get_or class q 0) lc) lq tw.0 (p.member_class (get_or class q 0) lc)) ∙ run-class (step a q x) w (whole.step_bound q x lq tw.0) tw.1
+      ap (λ c. run g c w) (h.stable (get_or members (get_or class q 0) 0) q (column a x) (p.member_bound (get_or class q 0) lc) lq (whole.column_bound x tw.0) (p.member_class (get_or class q 0) lc))
+      ∙ run-class (step a q x) w (step_bound a whole q x lq tw.0) tw.1
 
   member-accepts : (q : ℕ) → q < state_count a → is_accepting a (get_or members (get_or class q 0) 0) ≡ is_accepting a q
   member-accepts q lq =
@@ -34,10 +38,12 @@ module _ (a : Automaton) (class members : List ℕ) (whole : IsWhole a) (h : IsE
       ap (λ c. is_accepting a (get_or members c 0)) (run-class a.start w whole.start_bound tw)
       ∙ member-accepts (run (steps_of a) a.start w) (run-bound a whole a.start w whole.start_bound tw)
 
-  pub language-quotient : (r : Automaton) → IsReachable g r → SameLanguage r a
-  language-quotient r is = record {
-    over = is.over;
-    same = λ w tw. let t : IsTrace a.symbols w = rw is.over at tw in is.same w t ∙ accepts-quotient w t;
+  pub language-quotient : (r : Automaton) → IsReachable g r → (b : Automaton) → IsReachable (steps_of b) a → SameLanguage r b
+  language-quotient r is b from = record {
+    over = is.over ∙ from.over;
+    same = λ w tw.
+        let t : IsTrace a.symbols w = rw is.over at tw in
+        let t2 : IsTrace b.symbols w = rw from.over at t in is.same w t ∙ (accepts-quotient w t ∙ from.same w t2);
   }
 
   pub least-quotient : (r : Automaton) → IsReachable g r → IsLeast r
@@ -67,3 +73,14 @@ module _ (a : Automaton) (class members : List ℕ) (whole : IsWhole a) (h : IsE
           differs = λ e. d.differs (sym (from p u (b.reached p lp) tu) ∙ (e ∙ from q v (b.reached q lq) tv));
         };
   }
+
+pub columns-quotient : (a : Automaton) (class members : List ℕ) → IsWhole a → AreColumns (quotient a class members) (columns_of a)
+unfolding step
+columns-quotient a class members h = record { bound = h.column_bound; alike = λ c x y lx ly same. ap (λ k. get_or class (step_column a (get_or members c 0) k) 0) same }
+
+-- of the columns of an automaton at most all are left, of what is reached and of its classes
+pub fewer-columns : (a b r : Automaton) → HasColumns (columns_of a) b → HasColumns (columns_of b) r → r.width ≤ a.width
+fewer-columns a b r h k =
+    let le = few-columns (columns_of a) b (column a) a.width h h.within (λ x y lx ly e. e) in
+    let le2 = few-columns (columns_of b) r (column b) b.width k k.within (λ x y lx ly e. e) in
+    omega (arith, le, le2)

@@ -1,6 +1,6 @@
 -- Internal: which states belong together.
 use Rattle.std.specs.Prelude.{◌≡◌, ℕ, ◌<◌, ◌==◌, List, length, slice_index_or as get_or}
-use Rattle.dfa_core.specs.Automaton.{Automaton, IsWhole, is_accepting, state_count, step}
+use Rattle.dfa_core.specs.Automaton.{Automaton, IsWhole, is_accepting, state_count, step, step_column}
 use Rattle.dfa_core.specs.Steps.{Steps}
 use Rattle.dfa_minimise.specs.Least.{AreToldApart}
 use Rattle.dfa_minimise.specs.Partitions.{IsPartition, is_in}
@@ -15,17 +15,17 @@ pub record IsEquivalence (a : Automaton) (class members : List ℕ) : Type 0 whe
   pub whole : IsWhole a
   pub partition : IsPartition (state_count a) class members
   pub sound : IsSound a class
-  pub stable : (q r x : ℕ) → q < state_count a → r < state_count a → x < a.symbols → get_or class q 0 ≡ get_or class r 0 → get_or class (step a q x) 0 ≡ get_or class (step a r x) 0
+  pub stable : (q r k : ℕ) → q < state_count a → r < state_count a → k < a.width → get_or class q 0 ≡ get_or class r 0 → get_or class (step_column a q k) 0 ≡ get_or class (step_column a r k) 0
 
 -- the accepting states
 pub record AreAccepting (a : Automaton) (states : List ℕ) : Type 0 where
   pub bound : (k : ℕ) → k < length states → get_or states k 0 < state_count a
   pub are : (q : ℕ) → q < state_count a → is_in states q ≡ is_accepting a q
 
--- the states from which a symbol leads to one of the targets
-pub record LeadTo (a : Automaton) (x : ℕ) (targets states : List ℕ) : Type 0 where
-  pub bound : (k : ℕ) → k < length states → get_or states k 0 < state_count a
-  pub are : (q : ℕ) → q < state_count a → is_in states q ≡ is_in targets (step a q x)
+-- the states from which a column leads to one of the targets
+pub record LeadTo (a : Automaton) (k : ℕ) (targets states : List ℕ) : Type 0 where
+  pub bound : (i : ℕ) → i < length states → get_or states i 0 < state_count a
+  pub are : (q : ℕ) → q < state_count a → is_in states q ≡ is_in targets (step_column a q k)
 
 -- the states of a class
 pub record AreInClass (n c : ℕ) (class states : List ℕ) : Type 0 where

@@ -1,4 +1,4 @@
-ghost use Rattle.std.specs.Prelude.{◌≡◌, length, IfOk, IfErr};
+ghost use Rattle.std.specs.Prelude.{◌≡◌, ◌≤◌, length, IfOk, IfErr};
 ghost use Rattle.dfa_core.specs.Automaton.{IsBreadthFirst, SameLanguage, state_count};
 ghost use Rattle.dfa_minimise.specs.Least.{IsLeast};
 ghost use Rattle.dfa_minimise.specs.Partitions.{IsTidy};
@@ -6,19 +6,22 @@ ghost use Rattle.dfa_minimise.specs.Partitions.{IsTidy};
 use crate::refinable::Refinable;
 use crate::worklist::equivalent_states;
 use decl_base::Refusal;
-use dfa_core::{Dfa, System, reachable};
+use dfa_core::{Columned, Dfa, System, reachable};
 use std::alloc::Global;
 
-/// The least automaton of the same language, with its states in breadth-first order.
+/// The least automaton of the same language, with its states in breadth-first order. States that aren't reached, and columns that have no symbol,
+/// are dropped before the others are compared.
 pub fn least(alloc: Global, dfa: &Dfa) -> Result<Dfa, Refusal>
     ensures language { IfOk result (λ r. SameLanguage r dfa.now) }
     ensures least { IfOk result IsLeast }
     ensures order { IfOk result IsBreadthFirst }
+    ensures columns { IfOk result (λ r. r.width ≤ dfa.now.width) }
     ensures err { IfErr result (λ e. e ≡ Refusal.Memory) }
 {
-    let partition = equivalent_states(alloc, dfa)?;
+    let reached = reachable(alloc, dfa)?;
+    let partition = equivalent_states(alloc, &reached)?;
     let quotient = Quotient {
-        dfa,
+        dfa: &reached,
         partition: &partition,
     };
     let least = reachable(alloc, &quotient)?;
@@ -59,5 +62,19 @@ impl System for Quotient<'_> {
 
     fn accepting(&self, state: u32) -> bool {
         self.dfa.accepting(self.partition.member_of(state))
+    }
+}
+
+impl Columned for Quotient<'_> {
+    ghost use Rattle.dfa_core.specs.Columns.{columns_of};
+
+    ghost columns = { λ q. columns_of q.dfa.now };
+
+    fn columns(&self) -> usize {
+        self.dfa.columns() as usize
+    }
+
+    fn column(&self, symbol: u32) -> usize {
+        self.dfa.column(symbol) as usize
     }
 }

@@ -18,7 +18,7 @@ fn chain(alloc: Global, last: u32) -> Result<Dfa, Refusal>
     }
     next.push(last)?;
     accepting.push(true)?;
-    Ok(Dfa::of(1, 0, next, accepting))
+    Ok(Dfa::of(vec![in alloc; 0]?, 1, 0, next, accepting))
 }
 
 #[test]
@@ -34,7 +34,7 @@ fn chain_stays(rt: HostRuntime) -> Result<(), Fail> {
 // Seven states in a ring over one symbol, which all accept, or none.
 fn ring(alloc: Global, accepts: bool) -> Result<Dfa, Refusal> {
     let next = vec![in alloc; 1, 2, 3, 4, 5, 6, 0]?;
-    Ok(Dfa::of(1, 3, next, vec![in alloc; accepts; 7]?))
+    Ok(Dfa::of(vec![in alloc; 0]?, 1, 3, next, vec![in alloc; accepts; 7]?))
 }
 
 #[test]
@@ -52,7 +52,14 @@ fn states_are_numbered_breadth_first(rt: HostRuntime) -> Result<(), Fail> {
     let alloc = rt.alloc();
     // The traces with a 1, from the start 2, in four states of which 1 and 3 are alike.
     let next = vec![in alloc; 2, 1, 3, 3, 2, 1, 1, 3]?;
-    let shuffled = Dfa::of(2, 2, next, vec![in alloc; false, true, false, true]?);
+    let columns = vec![in alloc; 0, 1]?;
+    let shuffled = Dfa::of(
+        columns,
+        2,
+        2,
+        next,
+        vec![in alloc; false, true, false, true]?,
+    );
     let least = least(alloc, &shuffled)?;
     assert_eq!(rt; least.states(), 2);
     assert!(rt; least.start() == 0 && least.accepts(&[0, 1]) && !least.accepts(&[0]));

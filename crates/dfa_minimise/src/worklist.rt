@@ -1,4 +1,5 @@
 ghost use Rattle.std.specs.Prelude.{IfOk};
+ghost use Rattle.dfa_core.specs.Columns.{HasSymbols};
 ghost use Rattle.dfa_minimise.specs.Classes.{AreAccepting, IsEquivalence};
 ghost use Rattle.dfa_minimise.specs.Partitions.{IsTidy, members_of};
 
@@ -9,6 +10,7 @@ use std::alloc::{AllocError, Global};
 
 /// The states in classes: two are in one class exactly where no continuation tells them apart.
 pub(crate) fn equivalent_states(alloc: Global, dfa: &Dfa) -> Result<Refinable, AllocError>
+    requires { HasSymbols dfa.now }
     ensures tidy { IfOk result IsTidy }
     ensures equivalence { IfOk result (λ p. IsEquivalence dfa.now p.class.items (members_of p)) }
 {
@@ -19,8 +21,8 @@ pub(crate) fn equivalent_states(alloc: Global, dfa: &Dfa) -> Result<Refinable, A
     let mut splitter = 0;
     'splitters: while splitter < classes.count() {
         let inside = classes.states_of(alloc, splitter)?;
-        'symbols: for symbol in 0..dfa.symbols() {
-            let touched = sources.leading_to(alloc, &inside, symbol)?;
+        'columns: for column in 0..dfa.columns() {
+            let touched = sources.leading_to(alloc, &inside, column)?;
             classes.split(&touched)?;
         }
         splitter += 1;

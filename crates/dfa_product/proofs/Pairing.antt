@@ -5,6 +5,7 @@ use Rattle.dfa_core.specs.Automaton.{Automaton, IsReachable, IsWhole, steps_of}
 use Rattle.dfa_core.specs.Languages.{IsLeastIfAny}
 use Rattle.dfa_core.specs.Steps.{Steps, Accepts, accepts, run}
 use Rattle.dfa_core.specs.Traces.{IsTrace}
+use Rattle.dfa_core.proofs.Runs.{step_bound}
 use Rattle.template_core.specs.Tables.{IsTable, class, keeps_by, table_run, step as table_step}
 use Rattle.template_core.specs.declared.constraint.Constraint.{Constraint}
 use Rattle.template_core.specs.declared.table.Table.{Table}
@@ -33,7 +34,7 @@ module _ (s t : Steps) (h : IsClosed t) where
       rw (run-pairs s.start t.start w h.start_bound tw, div-mul-add (run s s.start w) t.states (run t t.start w) lt, mod-mul-add (run s s.start w) t.states (run t t.start w) lt) refl
 
 closed-whole : (a : Automaton) → IsWhole a → IsClosed (steps_of a)
-closed-whole a h = record { start_bound = h.start_bound; next_bound = h.step_bound }
+closed-whole a h = record { start_bound = h.start_bound; next_bound = step_bound a h }
 
 closed-table : (n : ℕ) (t : Table) (c : Constraint) (keeps : Bool) → IsTable t → IsClosed (table_steps n t c keeps)
 closed-table n t c keeps h = record { start_bound = h.start_bound; next_bound = λ q x lq lx. h.step_bound q (class c x) lq }

@@ -1,7 +1,8 @@
 -- Internal: two automata side by side, and a constraint's table as one.
 use Rattle.std.specs.Prelude.{ℕ, ◌*◌, ◌+◌, ◌/◌, ◌%◌, Bool, ◌&&◌, not, if◌then◌else◌}
+use Rattle.dfa_core.specs.Columns.{Columns}
 use Rattle.dfa_core.specs.Steps.{Steps}
-use Rattle.template_core.specs.Tables.{accepts_at, class, step as table_step}
+use Rattle.template_core.specs.Tables.{accepts_at, class, column, step as table_step}
 use Rattle.template_core.specs.declared.constraint.Constraint.{Constraint}
 use Rattle.template_core.specs.declared.table.Table.{Table}
 
@@ -15,6 +16,10 @@ pairs s t = record {
   accepting = λ q. s.accepting (q / t.states) && t.accepting (q % t.states);
 }
 
+-- A pair of columns is one number. A symbol has the pair of its two columns.
+abbrev pub pair_columns : Columns → Columns → Columns
+pair_columns c d = record { count = c.count * d.count; of = λ x. c.of x * d.count + d.of x }
+
 -- A constraint's table over the symbols below n: the traces that it accepts, which keep the constraint, or the others.
 abbrev pub table_steps : ℕ → Table → Constraint → Bool → Steps
 table_steps n t c keeps = record {
@@ -24,3 +29,7 @@ table_steps n t c keeps = record {
   next = λ q x. table_step t q (class c x);
   accepting = λ q. if keeps then accepts_at t q else not (accepts_at t q);
 }
+
+-- its columns are those of the classes
+abbrev pub table_columns : Constraint → Columns
+table_columns c = record { count = 3; of = λ x. column (class c x) }

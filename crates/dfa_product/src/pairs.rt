@@ -2,12 +2,12 @@ ghost use Rattle.std.specs.Prelude.{◌≡◌, ◌<◌, ◌*◌, ◌^◌};
 ghost use Rattle.dfa_core.specs.Automaton.{state_count};
 ghost use Rattle.template_core.specs.Tables.{IsTable};
 
-use dfa_core::{Dfa, System};
-use template_core::{Constraint, Table, class_of};
+use dfa_core::{Columned, Dfa, System};
+use template_core::{Class, Constraint, Table, class_of};
 
-/// Two automata side by side: a pair of their states is one number. A trace is accepted where both accept it.
+/// Two automata side by side: a pair of their states is one number, and so is a pair of their columns. A trace is accepted where both accept it.
 #[derive(Drop)]
-pub(crate) struct Pairs<'a, S: System> {
+pub(crate) struct Pairs<'a, S: Columned> {
     pub first: &'a Dfa,
     pub second: &'a S,
     /// How many states the second has.
@@ -15,9 +15,10 @@ pub(crate) struct Pairs<'a, S: System> {
     ghost width_told: { width ≡ (S.steps second.now).states },
     ghost same_symbols: { (S.steps second.now).symbols ≡ first.now.symbols },
     ghost fits: { state_count first.now * width < 2 ^ 32 },
+    ghost few_columns: { (S.columns second.now).count < 2 ^ 32 },
 }
 
-impl<S: System> System for Pairs<'_, S> {
+impl<S: Columned> System for Pairs<'_, S> {
     ghost use Rattle.dfa_core.specs.Automaton.{steps_of};
     ghost use Rattle.dfa_product.specs.SideBySide.{pairs};
 
@@ -42,6 +43,21 @@ impl<S: System> System for Pairs<'_, S> {
 
     fn accepting(&self, state: u32) -> bool {
         self.first.accepting(state / self.width) && self.second.accepting(state % self.width)
+    }
+}
+
+impl<S: Columned> Columned for Pairs<'_, S> {
+    ghost use Rattle.dfa_core.specs.Columns.{columns_of};
+    ghost use Rattle.dfa_product.specs.SideBySide.{pair_columns};
+
+    ghost columns = { λ p. pair_columns (columns_of p.first.now) (S.columns p.second.now) };
+
+    fn columns(&self) -> usize {
+        self.first.columns() as usize * self.second.columns()
+    }
+
+    fn column(&self, symbol: u32) -> usize {
+        self.first.column(symbol) as usize * self.second.columns() + self.second.column(symbol)
     }
 }
 
@@ -79,5 +95,23 @@ impl System for TableSteps<'_> {
 
     fn accepting(&self, state: u32) -> bool {
         self.table.accepts_at(state as u8) == self.keeps
+    }
+}
+
+impl Columned for TableSteps<'_> {
+    ghost use Rattle.dfa_product.specs.SideBySide.{table_columns};
+
+    ghost columns = { λ t. table_columns t.constraint.now };
+
+    fn columns(&self) -> usize {
+        3
+    }
+
+    fn column(&self, symbol: u32) -> usize {
+        match class_of(self.constraint, symbol) {
+            Class::First => 0,
+            Class::Second => 1,
+            Class::Other => 2,
+        }
     }
 }

@@ -1,7 +1,7 @@
-ghost use Rattle.std.specs.Prelude.{◌≡◌, ◌<◌, ◌*◌, ◌^◌, IfOk, IfErr};
+ghost use Rattle.std.specs.Prelude.{◌≡◌, ◌<◌, ◌≤◌, ◌+◌, ◌*◌, ◌^◌, IfOk, IfErr};
 ghost use Rattle.dfa_core.specs.Automaton.{IsBreadthFirst, state_count};
 ghost use Rattle.template_core.specs.Tables.{IsTable};
-ghost use Rattle.dfa_product.specs.Pairs.{IsIntersection, IsMeet};
+ghost use Rattle.dfa_product.specs.Pairs.{HasPairsOfColumns, IsIntersection, IsMeet, activities};
 
 use crate::pairs::{Pairs, TableSteps};
 use decl_base::Refusal;
@@ -9,7 +9,7 @@ use dfa_core::{Dfa, reachable};
 use std::alloc::Global;
 use template_core::{Constraint, Table};
 
-/// The automaton of the traces that `dfa` accepts and that keep the constraint.
+/// The automaton of the traces that `dfa` accepts and that keep the constraint. It has at most one column more for each activity of the constraint.
 pub fn meet(
     alloc: Global,
     dfa: &Dfa,
@@ -20,6 +20,7 @@ pub fn meet(
     requires fits { state_count dfa.now * table.now.states < 2 ^ 32 }
     ensures language { IfOk result (IsMeet dfa.now table.now constraint.now) }
     ensures reached { IfOk result IsBreadthFirst }
+    ensures columns { IfOk result (λ r. r.width ≤ dfa.now.width + activities constraint.now) }
     ensures err { IfErr result (λ e. e ≡ Refusal.Memory) }
 {
     let second = TableSteps {
@@ -33,15 +34,18 @@ pub fn meet(
         second: &second,
         width: table.states as u32,
     };
-    reachable(alloc, &pairs)
+    let product = reachable(alloc, &pairs)?;
+    Ok(product)
 }
 
-/// The automaton of the traces that both automata accept. It has at most as many states as there are pairs of theirs.
+/// The automaton of the traces that both automata accept. It has at most as many states as there are pairs of theirs, and as many columns as there are
+/// pairs of their columns that some symbol has.
 pub fn intersection(alloc: Global, first: &Dfa, second: &Dfa) -> Result<Dfa, Refusal>
     requires same_symbols { second.now.symbols ≡ first.now.symbols }
     requires fits { state_count first.now * state_count second.now < 2 ^ 32 }
     ensures language { IfOk result (IsIntersection first.now second.now) }
     ensures reached { IfOk result IsBreadthFirst }
+    ensures columns { IfOk result (HasPairsOfColumns first.now second.now) }
     ensures err { IfErr result (λ e. e ≡ Refusal.Memory) }
 {
     let pairs = Pairs {
@@ -49,5 +53,6 @@ pub fn intersection(alloc: Global, first: &Dfa, second: &Dfa) -> Result<Dfa, Ref
         second,
         width: second.states(),
     };
-    reachable(alloc, &pairs)
+    let product = reachable(alloc, &pairs)?;
+    Ok(product)
 }

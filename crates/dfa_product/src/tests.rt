@@ -52,12 +52,13 @@ fn least_traces(rt: HostRuntime) -> Result<(), Fail> {
         first: 1,
         second: 1,
     };
-    let all = Dfa::everything(alloc, 2)?;
+    let all = Dfa::everything(alloc, 3)?;
     let once = meet(alloc, &all, &init(), &begins)?;
     let last = meet(alloc, &all, &end(), &ends)?;
+    assert_eq!(rt; (all.columns(), once.columns(), last.columns()), (1, 2, 2));
     assert_eq!(rt; intersection(alloc, &once, &last)?.states(), 5);
     let both = meet(alloc, &once, &end(), &ends)?;
-    assert_eq!(rt; both.states(), 5);
+    assert_eq!(rt; (both.states(), both.columns()), (5, 3));
     match first_trace(alloc, &both, &Want::Accepted)? {
         Some(trace) => assert_eq!(rt; trace.events(), [0, 1].as_slice()),
         None => assert!(rt; false),

@@ -42,17 +42,18 @@ fn least_accepted(
     Ok(())
 }
 
-/// The least trace over three symbols that doesn't keep the constraint.
+/// The least trace that the automaton accepts and that doesn't keep the constraint.
 fn least_beside(
     rt: &impl Abort,
     alloc: Global,
+    dfa: &Dfa,
     constraint: Constraint,
     want: &[u32],
 ) -> Result<(), Fail> {
-    let all = Dfa::everything(alloc, 3)?;
     let table = table_of(constraint.kind);
+    assert!(rt; u64::from(dfa.states()) * u64::from(table.states) < 1 << 32);
     let beside = Want::Beside { table, constraint };
-    match first_trace(alloc, &all, &beside)? {
+    match first_trace(alloc, dfa, &beside)? {
         Some(trace) => assert_eq!(rt; trace.events(), want),
         None => assert!(rt; false),
     }
@@ -74,13 +75,14 @@ fn least_traces(rt: HostRuntime) -> Result<(), Fail> {
         first: 0,
         second: 1,
     };
-    least_beside(&rt, rt.alloc(), response, &[0])?;
+    let three = Dfa::everything(rt.alloc(), 3)?;
+    least_beside(&rt, rt.alloc(), &three, response, &[0])?;
     let participation = Constraint {
         kind: Kind::Participation,
         first: 0,
         second: 0,
     };
-    least_beside(&rt, rt.alloc(), participation, &[])?;
+    least_beside(&rt, rt.alloc(), &three, participation, &[])?;
     Ok(())
 }
 
@@ -91,5 +93,23 @@ fn numbers_of_states(rt: HostRuntime) -> Result<(), Fail> {
     let ends = narrowed(&rt, rt.alloc(), &begins, Kind::End, 1, 1)?;
     assert_eq!(rt; ends.states(), 5);
     assert_eq!(rt; least(rt.alloc(), &ends)?.states(), 4);
+    Ok(())
+}
+
+#[test]
+fn columns_of_many_symbols(rt: HostRuntime) -> Result<(), Fail> {
+    let all = Dfa::everything(rt.alloc(), 1_000)?;
+    assert_eq!(rt; all.columns(), 1);
+    let answered = narrowed(&rt, rt.alloc(), &all, Kind::Response, 3, 7)?;
+    assert_eq!(rt; answered.columns(), 3);
+    let taken = narrowed(&rt, rt.alloc(), &all, Kind::Participation, 500, 500)?;
+    assert_eq!(rt; taken.columns(), 2);
+    least_accepted(&rt, rt.alloc(), &taken, Some(&[500]))?;
+    let response = Constraint {
+        kind: Kind::Response,
+        first: 3,
+        second: 7,
+    };
+    least_beside(&rt, rt.alloc(), &taken, response, &[3, 500])?;
     Ok(())
 }

@@ -67,6 +67,11 @@ module _ (s : Scored) (list : List Scored) (decisions : List Decision) where
   with-dropped Untested witnesses out = absurd (true≢false out)
   with-dropped d witnesses out = refl
 
+-- what is dropped has no witness
+pub untested-dropped : (d : Decision) → is_kept d ≡ false → is_tested d ≡ false
+untested-dropped Kept out = absurd (true≢false out)
+untested-dropped d out = refl
+
 -- what is to come from a place on, and that there are as many witnesses for it
 abbrev pub rest_of : List Scored → List Decision → List (List ℕ) → ℕ → ℕ → List (Scored × Option (List ℕ))
 rest_of list decisions witnesses i next = with_witnesses (drop i list) (drop i decisions) (drop next witnesses)
@@ -83,13 +88,13 @@ drop-past (suc i) (x ∷ xs) le = drop-past i xs (omega arith)
 pub rest-none : (list : List Scored) (decisions : List Decision) (witnesses : List (List ℕ)) (i next : ℕ) → length list ≤ i → rest_of list decisions witnesses i next ≡ []
 rest-none list decisions witnesses i next le = ap (λ l. with_witnesses l (drop i decisions) (drop next witnesses)) (drop-past i list le)
 
-module _ (list : List Scored) (decisions : List Decision) (witnesses : List (List ℕ)) (i next : ℕ) (s : Scored) (d : Decision)
-    (many : length decisions ≡ length list) (inside : i < length list) (s_is : s ≡ get_or list i s) (d_is : d ≡ get_or decisions i d) (left : AreLeft decisions witnesses i next) where
+module _ (list : List Scored) (decisions : List Decision) (witnesses : List (List ℕ)) (i next : ℕ) (s : Scored) (d other : Decision)
+    (many : length decisions ≡ length list) (inside : i < length list) (s_is : s ≡ get_or list i s) (d_is : d ≡ get_or decisions i other) (left : AreLeft decisions witnesses i next) where
   rest_list : drop i list ≡ s ∷ drop (i + 1) list
   rest_list = drop-cons list i s inside ∙ ap (λ x. x ∷ drop (suc i) list) (sym s_is) ∙ ap (λ n. s ∷ drop n list) {x = suc i} {y = i + 1} (omega arith)
 
   rest_decisions : drop i decisions ≡ d ∷ drop (i + 1) decisions
-  rest_decisions = drop-cons decisions i d (omega (arith, many)) ∙ ap (λ x. x ∷ drop (suc i) decisions) (sym d_is) ∙ ap (λ n. d ∷ drop n decisions) {x = suc i} {y = i + 1} (omega arith)
+  rest_decisions = drop-cons decisions i other (omega (arith, many)) ∙ ap (λ x. x ∷ drop (suc i) decisions) (sym d_is) ∙ ap (λ n. d ∷ drop n decisions) {x = suc i} {y = i + 1} (omega arith)
 
   here : (ws : List (List ℕ)) → with_witnesses (drop i list) (drop i decisions) ws ≡ with_witnesses (s ∷ drop (i + 1) list) (d ∷ drop (i + 1) decisions) ws
   here ws = ap₂ (λ xs ds. with_witnesses xs ds ws) rest_list rest_decisions

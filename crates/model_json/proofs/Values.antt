@@ -1,5 +1,5 @@
 -- The values of a list, one more at a time.
-use Rattle.std.proofs.Common.{◌≡◌, ℕ, ◌+◌, ◌<◌, List, [], ◌∷◌, ◌++◌, Some, map, take, get_or, length, sym, ap, ◌∙◌}
+use Rattle.std.proofs.Common.{◌≡◌, ℕ, ◌+◌, ◌<◌, List, [], ◌∷◌, ◌++◌, Some, map, take, get_or, length, sym, ap, ◌∙◌, append_assoc}
 use Rattle.std.proofs.lemmas.List.{map-append, take_more}
 use Rattle.std.proofs.lemmas.Option.{slice_get_within, get_or_from_slice_get}
 use Rattle.std.specs.Prelude.{slice_get}
@@ -32,3 +32,13 @@ pub values-push_found : {X : Type 0} (f : X → Data) (values next : List Value)
     → map view values ≡ map f (take i xs) → map view next ≡ map f (take (i + 1) xs)
 values-push_found f values next xs i x value found value_is pushed so_far =
     values-push f values next xs i x value (slice_get_within xs i x found) (sym (get_or_from_slice_get xs i x x found)) value_is pushed so_far
+
+-- ---- what is done and what is to come
+
+-- one value more, and one less to come
+pub values-moved : {X : Type 0} (f : X → Data) (values next : List Value) (x : X) (value : Value) (rest after : List X) (all : List Data)
+    → rest ≡ x ∷ after → view value ≡ f x → next ≡ values ++ value ∷ [] → map view values ++ map f rest ≡ all → map view next ++ map f after ≡ all
+values-moved f values next x value rest after all rest_is value_is pushed so_far =
+    ap (λ l. map view l ++ map f after) pushed ∙ ap (λ l. l ++ map f after) (map-append view values (value ∷ []))
+    ∙ append_assoc (map view values) (view value ∷ []) (map f after)
+    ∙ ap (λ d. map view values ++ d ∷ map f after) value_is ∙ ap (λ l. map view values ++ map f l) (sym rest_is) ∙ so_far

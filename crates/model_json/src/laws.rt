@@ -24,21 +24,26 @@ pub fn refusals_are_of_models()
 pub fn reports_read_back()
     ensures scores { (names : List (List ℕ)) (repertoire : RepertoireOf) (list : List ScoredOf) (traces events : ℕ) → IsListed repertoire names list
         → model_of (scores_report names repertoire list traces events) ≡ Ok (listed names list) }
-    ensures consistent { (names : List (List ℕ)) (repertoire : RepertoireOf) (list : List ScoredOf) (sifting : Sifting) (traces events : ℕ) → IsListed repertoire names (staying list sifting.decisions)
+    ensures consistent { (names : List (List ℕ)) (repertoire : RepertoireOf) (list : List ScoredOf) (sifting : Sifting) (traces events : ℕ)
+        → IsListed repertoire names (staying list sifting.decisions)
         → model_of (consistent_report names repertoire list sifting traces events) ≡ Ok (listed names (staying list sifting.decisions)) }
-    ensures model { (names : List (List ℕ)) (repertoire : RepertoireOf) (list : List ScoredOf) (decisions : List DecisionOf) (witnesses : List (List ℕ)) (example : List ℕ) (traces events : ℕ)
+    ensures model { (names : List (List ℕ)) (repertoire : RepertoireOf) (list : List ScoredOf)
+        (decisions : List DecisionOf) (witnesses : List (List ℕ)) (example : List ℕ) (traces events : ℕ)
         → IsListed repertoire names (staying list decisions) → length witnesses ≡ count_by is_tested decisions
         → model_of (model_report names repertoire list decisions witnesses example traces events) ≡ Ok (listed names (staying list decisions)) }
 {}
 
 /// The text of a report, read as a model, has its names and its listed constraints again, in order.
 pub fn report_texts_read_back()
-    ensures scores { (names : List (List ℕ)) (repertoire : RepertoireOf) (list : List ScoredOf) (traces events : ℕ) (text : List ℕ) → IsListed repertoire names list
+    ensures scores { (names : List (List ℕ)) (repertoire : RepertoireOf) (list : List ScoredOf) (traces events : ℕ) (text : List ℕ)
+        → IsListed repertoire names list
         → IsLineOf (scores_report names repertoire list traces events) text → model_of_bytes text ≡ Ok (listed names list) }
-    ensures consistent { (names : List (List ℕ)) (repertoire : RepertoireOf) (list : List ScoredOf) (sifting : Sifting) (traces events : ℕ) (text : List ℕ)
+    ensures consistent { (names : List (List ℕ)) (repertoire : RepertoireOf) (list : List ScoredOf)
+        (sifting : Sifting) (traces events : ℕ) (text : List ℕ)
         → IsListed repertoire names (staying list sifting.decisions) → IsLineOf (consistent_report names repertoire list sifting traces events) text
         → model_of_bytes text ≡ Ok (listed names (staying list sifting.decisions)) }
-    ensures model { (names : List (List ℕ)) (repertoire : RepertoireOf) (list : List ScoredOf) (decisions : List DecisionOf) (witnesses : List (List ℕ)) (example : List ℕ) (traces events : ℕ) (text : List ℕ)
+    ensures model { (names : List (List ℕ)) (repertoire : RepertoireOf) (list : List ScoredOf)
+        (decisions : List DecisionOf) (witnesses : List (List ℕ)) (example : List ℕ) (traces events : ℕ) (text : List ℕ)
         → IsListed repertoire names (staying list decisions) → length witnesses ≡ count_by is_tested decisions
         → IsLineOf (model_report names repertoire list decisions witnesses example traces events) text
         → model_of_bytes text ≡ Ok (listed names (staying list decisions)) }
@@ -46,18 +51,22 @@ pub fn report_texts_read_back()
 
 /// A report nests no deeper than what is read, so its text reads back as it.
 pub fn reports_are_shallow()
-    ensures scores { (names : List (List ℕ)) (repertoire : RepertoireOf) (list : List ScoredOf) (traces events : ℕ) → depth (scores_report names repertoire list traces events) ≤ max_depth }
+    ensures scores { (names : List (List ℕ)) (repertoire : RepertoireOf) (list : List ScoredOf) (traces events : ℕ)
+        → depth (scores_report names repertoire list traces events) ≤ max_depth }
     ensures consistent { (names : List (List ℕ)) (repertoire : RepertoireOf) (list : List ScoredOf) (sifting : Sifting) (traces events : ℕ)
         → depth (consistent_report names repertoire list sifting traces events) ≤ max_depth }
-    ensures model { (names : List (List ℕ)) (repertoire : RepertoireOf) (list : List ScoredOf) (decisions : List DecisionOf) (witnesses : List (List ℕ)) (example : List ℕ) (traces events : ℕ)
+    ensures model { (names : List (List ℕ)) (repertoire : RepertoireOf) (list : List ScoredOf)
+        (decisions : List DecisionOf) (witnesses : List (List ℕ)) (example : List ℕ) (traces events : ℕ)
         → depth (model_report names repertoire list decisions witnesses example traces events) ≤ max_depth }
 {}
 
 /// A report has no float, so its text is known.
 pub fn reports_have_no_float()
-    ensures scores { (names : List (List ℕ)) (repertoire : RepertoireOf) (list : List ScoredOf) (traces events : ℕ) → has_float (scores_report names repertoire list traces events) ≡ false }
+    ensures scores { (names : List (List ℕ)) (repertoire : RepertoireOf) (list : List ScoredOf) (traces events : ℕ)
+        → has_float (scores_report names repertoire list traces events) ≡ false }
     ensures consistent { (names : List (List ℕ)) (repertoire : RepertoireOf) (list : List ScoredOf) (sifting : Sifting) (traces events : ℕ)
         → has_float (consistent_report names repertoire list sifting traces events) ≡ false }
-    ensures model { (names : List (List ℕ)) (repertoire : RepertoireOf) (list : List ScoredOf) (decisions : List DecisionOf) (witnesses : List (List ℕ)) (example : List ℕ) (traces events : ℕ)
+    ensures model { (names : List (List ℕ)) (repertoire : RepertoireOf) (list : List ScoredOf)
+        (decisions : List DecisionOf) (witnesses : List (List ℕ)) (example : List ℕ) (traces events : ℕ)
         → has_float (model_report names repertoire list decisions witnesses example traces events) ≡ false }
 {}

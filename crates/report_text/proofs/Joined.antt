@@ -15,9 +15,6 @@ three old a b c = simp append_assoc
 pub four : (old a b c d : List ℕ) → (((old ++ a) ++ b) ++ c) ++ d ≡ old ++ (((a ++ b) ++ c) ++ d)
 four old a b c d = simp append_assoc
 
-pub spread : (old a b c d : List ℕ) → (((old ++ a) ++ b) ++ c) ++ d ≡ old ++ (a ++ ((b ++ c) ++ d))
-spread old a b c d = simp append_assoc
-
 pub five : (old a b c d e : List ℕ) → ((((old ++ a) ++ b) ++ c) ++ d) ++ e ≡ old ++ ((((a ++ b) ++ c) ++ d) ++ e)
 five old a b c d e = simp append_assoc
 
@@ -36,7 +33,13 @@ line_more line old done now before after x grown so_far more =
     more ∙ ap (λ xs. xs ++ line x) so_far ∙ append_assoc old (flat_map line before) (line x)
     ∙ ap (λ xs. old ++ xs) (sym (ap (flat_map line) grown ∙ flat_map-append line before (x ∷ []) ∙ ap (λ xs. flat_map line before ++ xs) (append-nil (line x))))
 
--- the same of the numbers from 0
+-- one line more, and one less to come
+pub line_moved : {X : Type 0} (line : X → List ℕ) (done now : List ℕ) (x : X) (rest after : List X) (all : List ℕ) → rest ≡ x ∷ after → now ≡ done ++ line x
+    → done ++ flat_map line rest ≡ all → now ++ flat_map line after ≡ all
+line_moved line done now x rest after all rest_is more so_far =
+    ap (λ l. l ++ flat_map line after) more ∙ append_assoc done (line x) (flat_map line after) ∙ ap (λ l. done ++ flat_map line l) (sym rest_is) ∙ so_far
+
+-- one number more from 0, and its line
 pub piece_more : (f : ℕ → List ℕ) (old done now : List ℕ) (n : ℕ) → done ≡ old ++ flat_map f (range_with_len 0 n) → now ≡ done ++ f n
     → now ≡ old ++ flat_map f (range_with_len 0 (n + 1))
 piece_more f old done now n before more = line_more f old done now (range_with_len 0 n) (range_with_len 0 (n + 1)) n (range_more n) before more

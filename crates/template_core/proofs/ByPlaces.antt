@@ -15,7 +15,7 @@ use Rattle.template_core.specs.Counters.{occurrences, without, no_later, no_earl
 use Rattle.template_core.specs.Events.{at_head, at_place, one_if, occurs, is_first}
 use Rattle.template_core.specs.Places.{EventIs, PreviousIs, SomeIs, LaterIs, EarlierIs, NoneBetween, AlternatesLater, AlternatesEarlier, AtEach, RepeatsLater, RepeatsEarlier, ActivatedIn, ActivatedAt, FulfilledAt, WithoutAt, NoLaterAt, NoEarlierAt, NextAt, PreviousAt, RepeatedLaterAt, RepeatedEarlierAt, TwoAre, CountsPlaces}
 use Rattle.template_core.specs.Repertoire.{each, each_of, at_first, none, alternates_later, alternates_earlier, is_activated_in, is_activated, is_fulfilled}
-use Rattle.template_core.specs.Tests.{has, has_later, has_earlier, has_next, has_previous, repeats_later, repeats_earlier}
+use Rattle.template_core.specs.Tests.{passing, has, has_later, has_earlier, has_next, has_previous, repeats_later, repeats_earlier}
 use Rattle.template_core.specs.Groups.{group_of, activation_of}
 use Rattle.template_core.specs.declared.group.Group.{Group}
 use Rattle.template_core.specs.declared.group.Group.TheVariants.{Existence, Relation, Mutual, Negative}
@@ -96,7 +96,7 @@ module _ (before : List ℕ) (e : ℕ) (after : List ℕ) where
   )
 
   alternates_back : (a b : ℕ) → alternates_earlier nat_eq a b before e after ≡ true ↔ AlternatesEarlier a b T n
-  alternates_back a b = chain (alternates_back-iff a b before) (
+  alternates_back a b = chain (alternates_back-iff b a before) (
     λ r. let lt = slice_get_within before r.0 a r.1 in (r.0, lt, front r.0 lt ∙ r.1, no_front b r.0 r.2),
     λ r. (r.0, sym (front r.0 r.1) ∙ r.2, λ k lt is. let w = slice_get_within before k b is in r.3 k lt w (front k w ∙ is)),
   )
@@ -373,37 +373,32 @@ fulfilled-iff NotChainPrecedence a b trace i made active =
 -- a counter of the a's that pass a test
 counts : (a : ℕ) (test : List ℕ → ℕ → List ℕ → Bool) (Q : List ℕ → ℕ → Type 0)
     → ((before : List ℕ) (e : ℕ) (after : List ℕ) → test before e after ≡ true ↔ Q (before ++ e ∷ after) (length before))
-    → (trace : List ℕ) (i : ℕ) → at_place (λ before event after. nat_eq event a && test before event after) trace i ≡ true ↔ EventIs a trace i × Q trace i
-counts a test Q each =
-    at_place-iff (λ before event after. nat_eq event a && test before event after) (λ t i. EventIs a t i × Q t i)
-    (λ before e after.
-    and-iff (nat_eq e a) (test before e after) (EventIs a (before ++ e ∷ after) (length before)) (Q (before ++ e ∷ after) (length before)) (is-here before e after a) (each before e after))
-    (λ t i h r. no_event a t i h r.0)
+    → (trace : List ℕ) → CountsPlaces (λ i. EventIs a trace i × Q trace i) trace (passing nat_eq a test trace)
+counts a test Q each trace = (at_place (λ before event after. nat_eq event a && test before event after) trace, λ i lt. at i, refl)
+  where
+    at : (i : ℕ) → at_place (λ before event after. nat_eq event a && test before event after) trace i ≡ true ↔ EventIs a trace i × Q trace i
+    at =
+        at_place-iff (λ before event after. nat_eq event a && test before event after) (λ t i. EventIs a t i × Q t i)
+        (λ before e after. and-iff (nat_eq e a) (test before e after) _ _ (is-here before e after a) (each before e after))
+        (λ t i h r. no_event a t i h r.0) trace
 
 pub without-places : (a b : ℕ) (trace : List ℕ) → CountsPlaces (WithoutAt a b trace) trace (without nat_eq a b trace)
-without-places a b trace =
-    (at_place (λ before event after. nat_eq event a && (none nat_eq (has nat_eq b)) before event after) trace, λ i lt. counts a (none nat_eq (has nat_eq b)) (λ t i. ¬ SomeIs b t) (no (has nat_eq b) (λ t i. SomeIs b t) (λ before e after. some before e after b)) trace i, refl)
+without-places a b = counts a (none nat_eq (has nat_eq b)) (λ t i. ¬ SomeIs b t) (no (has nat_eq b) (λ t i. SomeIs b t) (λ before e after. some before e after b))
 
 pub no_later-places : (a b : ℕ) (trace : List ℕ) → CountsPlaces (NoLaterAt a b trace) trace (no_later nat_eq a b trace)
-no_later-places a b trace =
-    (at_place (λ before event after. nat_eq event a && (none nat_eq (has_later nat_eq b)) before event after) trace, λ i lt. counts a (none nat_eq (has_later nat_eq b)) (λ t i. ¬ LaterIs b t i) (no (has_later nat_eq b) (LaterIs b) (λ before e after. later before e after b)) trace i, refl)
+no_later-places a b = counts a (none nat_eq (has_later nat_eq b)) (λ t i. ¬ LaterIs b t i) (no (has_later nat_eq b) (LaterIs b) (λ before e after. later before e after b))
 
 pub no_earlier-places : (a b : ℕ) (trace : List ℕ) → CountsPlaces (NoEarlierAt a b trace) trace (no_earlier nat_eq a b trace)
-no_earlier-places a b trace =
-    (at_place (λ before event after. nat_eq event a && (none nat_eq (has_earlier nat_eq b)) before event after) trace, λ i lt. counts a (none nat_eq (has_earlier nat_eq b)) (λ t i. ¬ EarlierIs b t i) (no (has_earlier nat_eq b) (EarlierIs b) (λ before e after. earlier before e after b)) trace i, refl)
+no_earlier-places a b = counts a (none nat_eq (has_earlier nat_eq b)) (λ t i. ¬ EarlierIs b t i) (no (has_earlier nat_eq b) (EarlierIs b) (λ before e after. earlier before e after b))
 
 pub next-places : (a b : ℕ) (trace : List ℕ) → CountsPlaces (NextAt a b trace) trace (next nat_eq a b trace)
-next-places a b trace =
-    (at_place (λ before event after. nat_eq event a && (has_next nat_eq b) before event after) trace, λ i lt. counts a (has_next nat_eq b) (λ t i. EventIs b t (i + 1)) (λ before e after. following before e after b) trace i, refl)
+next-places a b = counts a (has_next nat_eq b) (λ t i. EventIs b t (i + 1)) (λ before e after. following before e after b)
 
 pub previous-places : (a b : ℕ) (trace : List ℕ) → CountsPlaces (PreviousAt a b trace) trace (previous nat_eq a b trace)
-previous-places a b trace =
-    (at_place (λ before event after. nat_eq event a && (has_previous nat_eq b) before event after) trace, λ i lt. counts a (has_previous nat_eq b) (PreviousIs b) (λ before e after. preceding before e after b) trace i, refl)
+previous-places a b = counts a (has_previous nat_eq b) (PreviousIs b) (λ before e after. preceding before e after b)
 
 pub rep_later-places : (a b : ℕ) (trace : List ℕ) → CountsPlaces (RepeatedLaterAt a b trace) trace (rep_later nat_eq a b trace)
-rep_later-places a b trace =
-    (at_place (λ before event after. nat_eq event a && (repeats_later nat_eq a b) before event after) trace, λ i lt. counts a (repeats_later nat_eq a b) (RepeatsLater a b) (λ before e after. repeats before e after a b) trace i, refl)
+rep_later-places a b = counts a (repeats_later nat_eq a b) (RepeatsLater a b) (λ before e after. repeats before e after a b)
 
 pub rep_earlier-places : (a b : ℕ) (trace : List ℕ) → CountsPlaces (RepeatedEarlierAt a b trace) trace (rep_earlier nat_eq a b trace)
-rep_earlier-places a b trace =
-    (at_place (λ before event after. nat_eq event a && (repeats_earlier nat_eq a b) before event after) trace, λ i lt. counts a (repeats_earlier nat_eq a b) (RepeatsEarlier a b) (λ before e after. repeats_back before e after a b) trace i, refl)
+rep_earlier-places a b = counts a (repeats_earlier nat_eq a b) (RepeatsEarlier a b) (λ before e after. repeats_back before e after a b)

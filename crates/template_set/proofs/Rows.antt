@@ -1,6 +1,6 @@
 -- The rows of the hierarchy's list, and what holds of each row holds of the closure.
-use Rattle.std.proofs.Common.{◌≡◌, ◌≢◌, ◌↔◌, ◌⊎◌, ℕ, zero, suc, ◌+◌, ◌<◌, ◌≤◌, ◌-◌, List, [], ◌∷◌, nat_eq, Bool, true, false, ◌&&◌, ◌==◌, not, if◌then◌else◌, nat_le, nat_lt, eqb, slice_index_or, rules, Option, Some, None, filter_map, ◌∙◌, length, refl, sym, ap, subst, arith, inl, inr, ⊎_elim}
-use Rattle.std.proofs.lemmas.Bool.{and_parts, and_from, eqb-true, eq-eqb, ltb-true}
+use Rattle.std.proofs.Common.{◌≡◌, ◌≢◌, ◌⊎◌, ℕ, zero, suc, ◌+◌, ◌<◌, ◌≤◌, ◌-◌, List, [], ◌∷◌, nat_eq, Bool, true, false, ◌&&◌, ◌==◌, not, if◌then◌else◌, nat_le, nat_lt, eqb, slice_index_or, Option, Some, None, filter_map, ◌∙◌, length, refl, sym, ap, subst, arith, inl, inr, ⊎_elim}
+use Rattle.std.proofs.lemmas.Bool.{and_parts, eqb-true, ltb-true}
 use Rattle.std.proofs.lemmas.Bool.Decides.{nat_tests}
 use Rattle.std.specs.List.{AllByRecursion, Contains}
 use Rattle.template_core.proofs.Gains.{occurs-count}

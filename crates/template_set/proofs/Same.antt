@@ -1,11 +1,23 @@
 -- That two constraints are the same, by the test of them.
-use Rattle.std.proofs.Common.{◌≡◌, ◌↔◌, ℕ, Bool, true, ◌&&◌, eqb, refl, sym, ap, subst, ◌∙◌}
+use denote.Enum.Compared.{by}
+use Rattle.std.proofs.Common.{◌≡◌, ◌↔◌, ℕ, Bool, true, false, ◌&&◌, eqb, refl, sym, ap, subst, ◌∙◌}
 use Rattle.std.proofs.lemmas.Bool.{false≢true, and_parts, and_from, eqb-true, eq-eqb}
-use Rattle.template_core.specs.contracts.kind.KindPartialEq.TheImpl.{eq-value as same}
+use Rattle.template_core.specs.contracts.kind.Kind.{enum}
 use Rattle.template_core.specs.declared.constraint.Constraint.{Constraint}
 use Rattle.template_core.specs.declared.kind.Kind.{Kind}
 use Rattle.template_core.specs.declared.kind.Kind.TheVariants.{Init, End, Participation, AtMostOne, ChainSuccession, AlternateSuccession, Succession, CoExistence, ChainResponse, AlternateResponse, Response, ChainPrecedence, AlternatePrecedence, Precedence, RespondedExistence, NotCoExistence, NotSuccession, NotChainSuccession, Exactly, AtLeast, AtMost, NotRespondedExistence, NotResponse, NotPrecedence, NotChainResponse, NotChainPrecedence}
 use Rattle.template_set.specs.Hierarchy.{of}
+
+-- of two values of one variant: nothing is left to compare, or their numbers
+abbrev bare : Unit {0} → Unit {0} → Bool
+bare x y = true
+
+abbrev counted : ℕ × Unit {0} → ℕ × Unit {0} → Bool
+counted x y = eqb x.0 y.0
+
+-- what the test of two templates computes
+abbrev same : Kind → Kind → Bool
+same k l = by false false enum.parts (bare, (bare, (bare, (bare, (bare, (bare, (bare, (bare, (bare, (bare, (bare, (bare, (bare, (bare, (bare, (bare, (bare, (bare, (counted, (counted, (counted, (bare, (bare, (bare, (bare, (bare, tt)))))))))))))))))))))))))) (enum.as_values k) (enum.as_values l)
 
 same_true : (k l : Kind) → same k l ≡ true → k ≡ l
 same_true Init Init e = refl

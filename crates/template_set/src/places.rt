@@ -8,7 +8,9 @@ ghost use Rattle.template_core.specs.Tests.{has, has_later, has_earlier, has_nex
 ghost use Rattle.template_core.specs.declared.group.Group.TheVariants.{Existence};
 
 use crate::dispatch::with_template;
-use template_core::{Activation, Constraint, Group, Kind, Template, group_of, keeps as keeps_template};
+use template_core::{
+    Activation, Constraint, Group, Kind, Template, group_of, keeps as keeps_template,
+};
 
 /// Whether a trace keeps a constraint, by its automaton.
 pub fn keeps(constraint: &Constraint, trace: &[u32]) -> bool

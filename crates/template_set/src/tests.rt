@@ -44,35 +44,39 @@ fn accepted(kind: Kind) -> (u32, u32)
 /// Against all words of up to five events that keep the template, by the definition.
 #[test]
 fn tables_accept_the_words_that_keep(rt: HostRuntime) {
-    for (kind, count, sum) in [
-        (Kind::Init, 121, 10890),
-        (Kind::End, 121, 3630),
-        (Kind::Participation, 301, 26082),
-        (Kind::AtMostOne, 192, 20175),
-        (Kind::ChainSuccession, 20, 1752),
-        (Kind::AlternateSuccession, 32, 3278),
-        (Kind::Succession, 88, 9787),
-        (Kind::CoExistence, 250, 22164),
-        (Kind::ChainResponse, 119, 13131),
-        (Kind::AlternateResponse, 144, 16392),
-        (Kind::Response, 185, 20847),
-        (Kind::ChainPrecedence, 119, 9281),
-        (Kind::AlternatePrecedence, 144, 12044),
-        (Kind::Precedence, 185, 16422),
-        (Kind::RespondedExistence, 307, 28757),
-        (Kind::NotCoExistence, 120, 11227),
-        (Kind::NotSuccession, 192, 16314),
-        (Kind::NotChainSuccession, 232, 20928),
-        (Kind::Exactly { n: 2 }, 111, 9471),
-        (Kind::AtLeast { n: 4 }, 12, 363),
-        (Kind::AtMost { n: 2 }, 303, 29646),
-        (Kind::NotRespondedExistence, 120, 11227),
-        (Kind::NotResponse, 192, 16314),
-        (Kind::NotPrecedence, 192, 16314),
-        (Kind::NotChainResponse, 232, 20928),
-        (Kind::NotChainPrecedence, 232, 20928),
+    for (name, count, sum) in [
+        ("Init", 121, 10890),
+        ("End", 121, 3630),
+        ("Participation", 301, 26082),
+        ("AtMostOne", 192, 20175),
+        ("ChainSuccession", 20, 1752),
+        ("AlternateSuccession", 32, 3278),
+        ("Succession", 88, 9787),
+        ("CoExistence", 250, 22164),
+        ("ChainResponse", 119, 13131),
+        ("AlternateResponse", 144, 16392),
+        ("Response", 185, 20847),
+        ("ChainPrecedence", 119, 9281),
+        ("AlternatePrecedence", 144, 12044),
+        ("Precedence", 185, 16422),
+        ("RespondedExistence", 307, 28757),
+        ("NotCoExistence", 120, 11227),
+        ("NotSuccession", 192, 16314),
+        ("NotChainSuccession", 232, 20928),
+        ("Exactly2", 111, 9471),
+        ("AtLeast4", 12, 363),
+        ("AtMost2", 303, 29646),
+        ("NotRespondedExistence", 120, 11227),
+        ("NotResponse", 192, 16314),
+        ("NotPrecedence", 192, 16314),
+        ("NotChainResponse", 232, 20928),
+        ("NotChainPrecedence", 232, 20928),
     ] {
-        assert_eq!(rt; accepted(kind), (count, sum), "{kind:?}");
+        let found = match kind_of(name) {
+            Some(kind) => accepted(kind),
+            None => (0, 0),
+        };
+        assert_eq!(rt; found, (count, sum), "{name}");
     }
 }
 
@@ -104,7 +108,13 @@ fn names_and_arities(rt: HostRuntime) {
     }
     assert_eq!(rt; two, 19);
     for text in [
-        "participation", "Response ", "", "AtLeast", "Exactly0", "AtLeast10", "exactly2",
+        "participation",
+        "Response ",
+        "",
+        "AtLeast",
+        "Exactly0",
+        "AtLeast10",
+        "exactly2",
     ] {
         assert_eq!(rt; kind_of(text), None, "{text}");
     }

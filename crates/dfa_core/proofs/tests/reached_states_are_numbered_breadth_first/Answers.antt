@@ -4,5 +4,6 @@ use Rattle.dfa_core.proofs.tests.reached_states_are_numbered_breadth_first.Goals
 
 pub of-dfa-requires : goal.of-dfa-requires
 of-dfa-requires g c =
-    rw (c.in_ok-next.ensures.items, c.in_ok-vec.ensures.items)
-    (whole-entries 2 2 (0 ∷ 0 ∷ 0 ∷ 1 ∷ 2 ∷ 0 ∷ []) (true ∷ true ∷ false ∷ []) (lit< tt) (lit< tt) refl (lit< tt, (lit< tt, (lit< tt, (lit< tt, (lit< tt, (lit< tt, tt)))))))
+    rw (c.in_ok-columns.ensures.items, c.in_ok-next.ensures.items, c.in_ok-vec.ensures.items)
+    (whole-entries (2 ∷ 1 ∷ 2 ∷ []) 3 2 (1 ∷ 0 ∷ 0 ∷ 1 ∷ 1 ∷ 1 ∷ 1 ∷ 0 ∷ 2 ∷ []) (true ∷ true ∷ false ∷ []) (lit< tt) (lit< tt) (lit< tt, (lit< tt, (lit< tt, tt))) (lit< tt) (lit< tt) refl
+    (lit< tt, (lit< tt, (lit< tt, (lit< tt, (lit< tt, (lit< tt, (lit< tt, (lit< tt, (lit< tt, tt))))))))))

@@ -1,4 +1,4 @@
-use Rattle.std.proofs.Common.{◌≡◌, ℕ, ◌+◌, ◌<◌, List, [], ◌∷◌, ◌++◌, length, true, arith}
+use Rattle.std.proofs.Common.{◌≡◌, ℕ, ◌+◌, ◌<◌, List, [], ◌∷◌, ◌++◌, length, true, arith, lit<}
 use Rattle.std.proofs.lemmas.List.{length_push}
 use Rattle.std.specs.List.{AllByRecursion}
 use Rattle.dfa_core.proofs.Runs.{whole-entries}
@@ -17,6 +17,6 @@ of-requires c =
     let end : c.loop-state.state ≡ last = omega (arith, c.loop-state-test.false, c.loop-state.auto.state-end) in
     let states : length (accepting ++ true ∷ []) ≡ last + 1 = omega (arith, length_push accepting true, h.accepting_length, end) in
     let entries : length (next ++ last ∷ []) ≡ last + 1 = omega (arith, length_push next last, h.next_length, end) in
-    rw (c.in_ok-push-3.ensures.items, c.in_ok-push-4.ensures.items)
-    (whole-entries 1 0 (next ++ last ∷ []) (accepting ++ true ∷ []) (omega (arith, states)) (omega (arith, states, c.requires)) (omega (arith, states, entries))
+    rw (c.in_ok-push-3.ensures.items, c.in_ok-push-4.ensures.items, c.in_ok-vec.ensures.items)
+    (whole-entries (0 ∷ []) 1 0 (next ++ last ∷ []) (accepting ++ true ∷ []) (lit< tt) (lit< tt) (lit< tt, tt) (omega (arith, states)) (omega (arith, states, c.requires)) (omega (arith, states, entries))
     (rw states (all-push (last + 1) next last h.entries (omega arith))))

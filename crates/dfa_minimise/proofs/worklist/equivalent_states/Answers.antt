@@ -22,26 +22,26 @@ splitters-init c =
       within = omega arith;
     }
 
-pub symbols-preserved : goal.symbols-preserved
-symbols-preserved c =
+pub columns-preserved : goal.columns-preserved
+columns-preserved c =
     let a = c.args.dfa.now in
     let was = c.splitters.classes in
-    let old = c.symbols.classes in
-    let new = c.split-in-symbols.new.self in
-    let h = c.symbols.invariant in
-    let x = c.symbols.symbol in
+    let old = c.columns.classes in
+    let new = c.split-in-columns.new.self in
+    let h = c.columns.invariant in
+    let x = c.columns.column in
     let inside = c.in_ok-inside.inside.items in
     let touched = c.in_ok-touched.touched.items in
-    let lx : x < a.symbols = omega (arith, c.symbols-test.true, c.symbols-symbol-end.ensures) in
+    let lx : x < a.width = omega (arith, c.columns-test.true, c.columns-column-end.ensures.value) in
     let low : c.splitters.splitter < length was.first.items = omega (arith, c.splitters-test.true, c.count.ensures) in
-    let cut : IsCut (state_count a) (length old.first.items) touched old.class.items new.class.items = rw (h.states, c.deref-in-symbols-2.ensures.value) at c.in_ok-split-2.ensures.cut in
+    let cut : IsCut (state_count a) (length old.first.items) touched old.class.items new.class.items = rw (h.states, c.deref-in-columns-2.ensures.value) at c.in_ok-split-2.ensures.cut in
     let ins : AreInClass (state_count a) c.splitters.splitter was.class.items inside = rw c.splitters.invariant.states at c.in_ok-inside.ensures in
-    let to : LeadTo a x inside touched = rw (c.in_ok-sources.ensures.dfa, c.deref-in-symbols.ensures.value) at c.in_ok-touched.ensures in
+    let to : LeadTo a x inside touched = rw (c.in_ok-sources.ensures.dfa, c.deref-in-columns.ensures.value) at c.in_ok-touched.ensures in
     record {
       tidy = c.in_ok-split-2.ensures.tidy;
       states = c.in_ok-split-2.ensures.states ∙ h.states;
       grows = omega (arith, h.grows, c.in_ok-split-2.ensures.grows);
-      split = split-more a (length was.first.items) (length old.first.items) c.splitters.splitter x inside touched was.class.items old.class.items new.class.items c.states.ensures.whole lx h.grows low ins.are to cut h.split;
+      split = split-more a (length was.first.items) (length old.first.items) c.splitters.splitter x inside touched was.class.items old.class.items new.class.items c.states.ensures.whole lx h.grows low ins.are c.requires to cut h.split;
     }
 
 pub splitters-smaller : goal.splitters-smaller
@@ -53,15 +53,15 @@ pub splitters-preserved : goal.splitters-preserved
 splitters-preserved c =
     let a = c.args.dfa.now in
     let was = c.splitters.classes in
-    let h = c.symbols.invariant in
+    let h = c.columns.invariant in
     let low : c.splitters.splitter < length was.first.items = omega (arith, c.splitters-test.true, c.count.ensures) in
-    let all : c.symbols.symbol ≡ a.symbols = omega (arith, c.symbols-test.false, c.symbols-symbol-end.ensures, c.symbols.auto.symbol-end) in
+    let all : c.columns.column ≡ a.width = omega (arith, c.columns-test.false, c.columns-column-end.ensures.value, c.columns.auto.column-end) in
     let s = rw all at h.split in
     record {
       tidy = h.tidy;
       states = h.states;
       sound = s.sound;
-      stable = split-all a (length was.first.items) c.splitters.splitter was.class.items c.symbols.classes.class.items c.states.ensures.whole low s;
+      stable = split-all a (length was.first.items) c.splitters.splitter was.class.items c.columns.classes.class.items c.states.ensures.whole low s;
       within = omega (arith, h.grows, low);
     }
 
@@ -78,5 +78,5 @@ returns-clause-equivalence c =
       whole = whole;
       partition = subst P h.states (partition-tidy p h.tidy);
       sound = h.sound;
-      stable = λ q r x lq lr lx e. h.stable.stable q r x lq lr lx e (bound _ (whole.step_bound q x lq lx)) (bound _ (whole.step_bound r x lr lx));
+      stable = λ q r x lq lr lx e. h.stable.stable q r x lq lr lx e (bound _ (whole.entry_bound q x lq lx)) (bound _ (whole.entry_bound r x lr lx));
     }

@@ -18,10 +18,10 @@ invariant-splitters l = record {
 abbrev pub decreases-splitters : goal.decreases-splitters
 decreases-splitters l = state_count l.dfa - l.splitter
 
-abbrev pub invariant-symbols : goal.invariant-symbols
-invariant-symbols l = record {
+abbrev pub invariant-columns : goal.invariant-columns
+invariant-columns l = record {
   tidy : IsTidy l.classes;
   states : length l.classes.class.items ≡ state_count l.dfa;
   grows : length l.initial.classes.first.items ≤ length l.classes.first.items;
-  split : IsBeingSplit l.dfa (length l.initial.classes.first.items) l.splitter l.symbol l.initial.classes.class.items l.classes.class.items;
+  split : IsBeingSplit l.dfa (length l.initial.classes.first.items) l.splitter l.column l.initial.classes.class.items l.classes.class.items;
 }

@@ -1,6 +1,6 @@
 use Rattle.std.proofs.Common.{◌≡◌, ℕ, ◌<◌, ◌≤◌, ◌+◌, ◌*◌, ◌-◌, length, get_or, false}
 use Rattle.dfa_core.specs.Searching.{IsOn}
-use Rattle.dfa_core.proofs.reach.first_accepted.Given as goal
+use Rattle.dfa_core.proofs.reach.first_found.Given as goal
 
 abbrev pub invariant-rows : goal.invariant-rows
 invariant-rows g l = record {

@@ -37,7 +37,7 @@ length-those test (c ∷ list) (d ∷ decisions) many = go (test d) (length-thos
   where
     go : (mark : Bool) → length (those test list decisions) ≡ count_by test decisions → length (marked (mark ∷ map test decisions) (c ∷ list)) ≡ cond mark 1 0 + count_by test decisions
     go true rest = omega (arith, rest)
-    go false rest = rest
+    go false rest = omega (arith, rest)
 
 -- where no limit gave a decision, all that stay are tested
 tested-kept : (decisions : List Decision) → AllByRecursion (λ (d : Decision). is_at_limit d ≡ false) decisions → count_by is_kept decisions ≡ count_by is_tested decisions
@@ -75,12 +75,12 @@ length-within n kept (c ∷ list) [] witnesses h many = absurd h
 length-within n kept (c ∷ list) (Kept ∷ decisions) [] h many = absurd h
 length-within n kept (c ∷ list) (Kept ∷ decisions) (w ∷ witnesses) h many =
     omega (arith, length-within n (kept ++ c ∷ []) list decisions witnesses h.1 (omega (arith, many)), count-cons is_tested Kept decisions)
-length-within n kept (c ∷ list) (Untested ∷ decisions) witnesses h many = length-within n (kept ++ c ∷ []) list decisions witnesses h (omega (arith, many)) ∙ sym (count-cons is_tested Untested decisions)
-length-within n kept (c ∷ list) (Conflict ∷ decisions) witnesses h many = length-within n kept list decisions witnesses h (omega (arith, many)) ∙ sym (count-cons is_tested Conflict decisions)
-length-within n kept (c ∷ list) (Weaker by ∷ decisions) witnesses h many = length-within n kept list decisions witnesses h (omega (arith, many)) ∙ sym (count-cons is_tested (Weaker by) decisions)
-length-within n kept (c ∷ list) (FirstPass ∷ decisions) witnesses h many = length-within n kept list decisions witnesses h (omega (arith, many)) ∙ sym (count-cons is_tested FirstPass decisions)
-length-within n kept (c ∷ list) (SecondPass ∷ decisions) witnesses h many = length-within n kept list decisions witnesses h (omega (arith, many)) ∙ sym (count-cons is_tested SecondPass decisions)
-length-within n kept (c ∷ list) (Beyond ∷ decisions) witnesses h many = length-within n kept list decisions witnesses h (omega (arith, many)) ∙ sym (count-cons is_tested Beyond decisions)
+length-within n kept (c ∷ list) (Untested ∷ decisions) witnesses h many = omega (arith, length-within n (kept ++ c ∷ []) list decisions witnesses h (omega (arith, many)), count-cons is_tested Untested decisions)
+length-within n kept (c ∷ list) (Conflict ∷ decisions) witnesses h many = omega (arith, length-within n kept list decisions witnesses h (omega (arith, many)), count-cons is_tested Conflict decisions)
+length-within n kept (c ∷ list) (Weaker by ∷ decisions) witnesses h many = omega (arith, length-within n kept list decisions witnesses h (omega (arith, many)), count-cons is_tested (Weaker by) decisions)
+length-within n kept (c ∷ list) (FirstPass ∷ decisions) witnesses h many = omega (arith, length-within n kept list decisions witnesses h (omega (arith, many)), count-cons is_tested FirstPass decisions)
+length-within n kept (c ∷ list) (SecondPass ∷ decisions) witnesses h many = omega (arith, length-within n kept list decisions witnesses h (omega (arith, many)), count-cons is_tested SecondPass decisions)
+length-within n kept (c ∷ list) (Beyond ∷ decisions) witnesses h many = omega (arith, length-within n kept list decisions witnesses h (omega (arith, many)), count-cons is_tested Beyond decisions)
 
 over-within : (n : ℕ) (kept list : List Constraint) (decisions : List Decision) (witnesses : List (List ℕ)) → AreWitnessesWithin n kept list decisions witnesses → AllByRecursion (λ (w : List ℕ). All (λ rank. rank < n) w) witnesses
 over-within n kept [] decisions [] h = tt

@@ -8,10 +8,10 @@ use Rattle.reduce_model.specs.declared.decision.Decision.TheVariants.{Kept, Conf
 
 -- a list gone by, with one constraint more where it has the mark
 abbrev joins : Bool → List Constraint → Constraint → List Constraint
-joins yes list c = cond yes (list ++ c ∷ []) list
+joins has list c = cond has (list ++ c ∷ []) list
 
 -- behind a list gone by
-joined-before : (yes : Bool) (gone : List Constraint) (c : Constraint) (marks : List Bool) (list : List Constraint) → joins yes gone c ++ marked marks list ≡ gone ++ marked (yes ∷ marks) (c ∷ list)
+joined-before : (has : Bool) (gone : List Constraint) (c : Constraint) (marks : List Bool) (list : List Constraint) → joins has gone c ++ marked marks list ≡ gone ++ marked (has ∷ marks) (c ∷ list)
 joined-before true gone c marks list = append_assoc gone (c ∷ []) (marked marks list)
 joined-before false gone c marks list = refl
 

@@ -11,13 +11,14 @@ use Rattle.minerful_words.specs.declared.settings.Settings.{Settings}
 use Rattle.minerful_words.specs.declared.settings.Stage.TheVariants.{Model}
 use Rattle.model_json.specs.Report.{staying}
 use Rattle.reduce_model.specs.Deciding.{IsAt, after, before, is_consistent, is_kept, is_left, those}
-use Rattle.reduce_model.specs.Keeping.{IsKeepable, KeepsAll}
+use Rattle.reduce_model.specs.Keeping.{IsKeepable}
 use Rattle.reduce_model.specs.Reduction.{Breaks, Implies, Reduction}
 use Rattle.reduce_model.specs.Within.{IsClosed, IsWideList, has_witness}
 use Rattle.reduce_model.specs.declared.decision.Decision.{Decision}
 use Rattle.reduce_model.specs.declared.decision.Decision.TheVariants.{Kept, Conflict, Untested}
 use Rattle.scoring.specs.Scores.{scored}
 use Rattle.scoring.specs.declared.scored.Scored.{Scored}
+use Rattle.template_core.specs.Keeping.{KeepsAll}
 use Rattle.template_core.specs.declared.constraint.Constraint.{Constraint}
 use Rattle.minerful_core.specs.Outcome.{candidates_in, constraints_in, log_of, model_text, text_of_log}
 

@@ -116,6 +116,8 @@ VALUES = {
     "traces": ["0", "3", "1048575"],
     "length": ["1", "10", "1000"],
     "letters": ["1", "26"],
+    "repertoire": ["1", "2"],
+    "on-limit": ["stop", "keep"],
 }
 
 

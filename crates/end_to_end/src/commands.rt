@@ -21,6 +21,9 @@ const RESPONSE_OF_Z: &[u8] =
 
 const INIT: &[u8] = b"{\"constraints\":[{\"template\":\"Init\",\"parameters\":[[\"a\"]]}]}";
 
+const EXACTLY: &[u8] =
+    b"{\"constraints\":[{\"template\":\"Exactly2\",\"parameters\":[[\"a\"]]}],\"version\":2}";
+
 #[test]
 fn checks_are_told(rt: HostRuntime) -> Result<(), Fail> {
     let cases = [
@@ -42,6 +45,12 @@ fn checks_are_told(rt: HostRuntime) -> Result<(), Fail> {
             Status::Differs,
             " activated  fulfilled       kept      trace      place constraint\n         1          0          0          1          0 Init(\"a\")\n",
         ),
+        (
+            EXACTLY,
+            "aa\n",
+            Status::Done,
+            " activated  fulfilled       kept      trace      place constraint\n         1          1          1          -          - Exactly2(\"a\")\n",
+        ),
     ];
     for (model, log, status, want) in cases {
         let ran = run_check(rt.alloc(), "check m", model, log.as_bytes())?;
@@ -49,8 +58,13 @@ fn checks_are_told(rt: HostRuntime) -> Result<(), Fail> {
         assert_eq!(rt; ran.out.bytes(), want.as_bytes());
         assert!(rt; ran.err.bytes().is_empty());
     }
+    let ran = run_with(rt.alloc(), "regex Response ba", b"", CALM)?;
+    assert_eq!(rt; ran.status, Status::Differs);
+    assert_eq!(rt; ran.out.bytes(), b"no\n".as_slice());
     Ok(())
 }
+
+const COUNTED: &[u8] = b"{\"constraints\":[{\"template\":\"Exactly2\",\"parameters\":[[\"a\"]]}]}";
 
 const SAME: &[u8] =
     b"{\"constraints\":[{\"template\":\"Response\",\"parameters\":[[\"a\"],[\"a\"]]}]}";
@@ -58,12 +72,17 @@ const SAME: &[u8] =
 /// A model is refused before its log is opened, which isn't there.
 #[test]
 fn models_are_refused_first(rt: HostRuntime) -> Result<(), Fail> {
-    let cases: [(&[u8], Status, &str); 3] = [
+    let cases: [(&[u8], Status, &str); 4] = [
         (b"{", Status::BadModel, "minerful: the model is not JSON\n"),
         (
             SAME,
             Status::BadModel,
             "minerful: same parameter twice, constraint 1\n",
+        ),
+        (
+            COUNTED,
+            Status::BadModel,
+            "minerful: unknown template, constraint 1\n",
         ),
         (INIT, Status::ReadFault, "minerful: read fault\n"),
     ];

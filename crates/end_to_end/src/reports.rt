@@ -137,9 +137,17 @@ const OF_AB: &str =
 const OF_A_AND_B: &str =
     "{\"constraints\":[{\"confidence\":[1,1],\"interest\":[1,2],\"parameters\":[[\"a\"]],\"support\":[1,1],\"template\":\"AtMostOne\",\"witness\":[\"a\",\"a\"]},{\"confidence\":[1,1],\"interest\":[1,2],\"parameters\":[[\"a\"],[\"b\"]],\"support\":[1,1],\"template\":\"NotCoExistence\",\"witness\":[\"a\",\"b\"]},{\"confidence\":[1,2],\"interest\":[1,4],\"parameters\":[[\"a\"]],\"support\":[1,2],\"template\":\"Init\",\"witness\":[]}],\"dropped\":[{\"confidence\":[1,1],\"interest\":[1,2],\"parameters\":[[\"b\"]],\"support\":[1,1],\"template\":\"AtMostOne\",\"why\":\"second-pass\"},{\"by\":{\"parameters\":[[\"a\"],[\"b\"]],\"template\":\"NotCoExistence\"},\"confidence\":[1,1],\"interest\":[1,2],\"parameters\":[[\"a\"],[\"b\"]],\"support\":[1,1],\"template\":\"NotSuccession\",\"why\":\"weaker\"},{\"by\":{\"parameters\":[[\"a\"],[\"b\"]],\"template\":\"NotCoExistence\"},\"confidence\":[1,1],\"interest\":[1,2],\"parameters\":[[\"b\"],[\"a\"]],\"support\":[1,1],\"template\":\"NotSuccession\",\"why\":\"weaker\"},{\"by\":{\"parameters\":[[\"a\"],[\"b\"]],\"template\":\"NotCoExistence\"},\"confidence\":[1,1],\"interest\":[1,2],\"parameters\":[[\"a\"],[\"b\"]],\"support\":[1,1],\"template\":\"NotChainSuccession\",\"why\":\"weaker\"},{\"by\":{\"parameters\":[[\"a\"],[\"b\"]],\"template\":\"NotCoExistence\"},\"confidence\":[1,1],\"interest\":[1,2],\"parameters\":[[\"b\"],[\"a\"]],\"support\":[1,1],\"template\":\"NotChainSuccession\",\"why\":\"weaker\"},{\"confidence\":[1,2],\"interest\":[1,4],\"parameters\":[[\"b\"]],\"support\":[1,2],\"template\":\"Init\",\"why\":\"conflict\"},{\"confidence\":[1,2],\"interest\":[1,4],\"parameters\":[[\"a\"]],\"support\":[1,2],\"template\":\"End\",\"why\":\"first-pass\"},{\"confidence\":[1,2],\"interest\":[1,4],\"parameters\":[[\"b\"]],\"support\":[1,2],\"template\":\"End\",\"why\":\"conflict\"},{\"by\":{\"parameters\":[[\"a\"]],\"template\":\"Init\"},\"confidence\":[1,2],\"interest\":[1,4],\"parameters\":[[\"a\"]],\"support\":[1,2],\"template\":\"Participation\",\"why\":\"weaker\"},{\"confidence\":[1,2],\"interest\":[1,4],\"parameters\":[[\"b\"]],\"support\":[1,2],\"template\":\"Participation\",\"why\":\"conflict\"}],\"events\":2,\"example\":[\"a\"],\"tasks\":[\"a\",\"b\"],\"traces\":2}\n";
 
+/// The table of ab and ab where each list with five states is too wide.
+const WITHIN_FOUR: &str =
+    "     support   confidence     interest constraint\n         1/1          1/1          1/1 Init(\"a\") -\n         1/1          1/1          1/1 End(\"b\") [\"a\"]\n         1/1          1/1          1/1 AtMostOne(\"a\") [\"a\",\"a\",\"b\"]\n         1/1          1/1          1/1 AtMostOne(\"b\") [\"a\",\"b\",\"b\"]\n";
+
 /// The model of the trace a.
 const OF_A: &str =
     "{\"constraints\":[{\"confidence\":[1,1],\"interest\":[1,1],\"parameters\":[[\"a\"]],\"support\":[1,1],\"template\":\"Init\",\"witness\":[]},{\"confidence\":[1,1],\"interest\":[1,1],\"parameters\":[[\"a\"]],\"support\":[1,1],\"template\":\"AtMostOne\",\"witness\":[\"a\",\"a\"]}],\"dropped\":[{\"confidence\":[1,1],\"interest\":[1,1],\"parameters\":[[\"a\"]],\"support\":[1,1],\"template\":\"End\",\"why\":\"first-pass\"},{\"by\":{\"parameters\":[[\"a\"]],\"template\":\"Init\"},\"confidence\":[1,1],\"interest\":[1,1],\"parameters\":[[\"a\"]],\"support\":[1,1],\"template\":\"Participation\",\"why\":\"weaker\"}],\"events\":1,\"example\":[\"a\"],\"tasks\":[\"a\"],\"traces\":1}\n";
+
+/// The model of the traces aa and aa, of the second repertoire.
+const OF_AA: &str =
+    "{\"constraints\":[{\"confidence\":[1,1],\"interest\":[1,1],\"parameters\":[[\"a\"]],\"support\":[1,1],\"template\":\"Exactly2\",\"witness\":[]}],\"dropped\":[{\"confidence\":[1,1],\"interest\":[1,1],\"parameters\":[[\"a\"]],\"support\":[1,1],\"template\":\"Init\",\"why\":\"second-pass\"},{\"confidence\":[1,1],\"interest\":[1,1],\"parameters\":[[\"a\"]],\"support\":[1,1],\"template\":\"End\",\"why\":\"first-pass\"},{\"by\":{\"parameters\":[[\"a\"]],\"template\":\"Init\"},\"confidence\":[1,1],\"interest\":[1,1],\"parameters\":[[\"a\"]],\"support\":[1,1],\"template\":\"Participation\",\"why\":\"weaker\"},{\"by\":{\"parameters\":[[\"a\"]],\"template\":\"Exactly2\"},\"confidence\":[1,1],\"interest\":[1,1],\"parameters\":[[\"a\"]],\"support\":[1,1],\"template\":\"AtLeast2\",\"why\":\"weaker\"},{\"by\":{\"parameters\":[[\"a\"]],\"template\":\"Exactly2\"},\"confidence\":[1,1],\"interest\":[1,1],\"parameters\":[[\"a\"]],\"support\":[1,1],\"template\":\"AtMost2\",\"why\":\"weaker\"},{\"by\":{\"parameters\":[[\"a\"]],\"template\":\"Exactly2\"},\"confidence\":[1,1],\"interest\":[1,1],\"parameters\":[[\"a\"]],\"support\":[1,1],\"template\":\"AtMost3\",\"why\":\"weaker\"},{\"by\":{\"parameters\":[[\"a\"]],\"template\":\"Exactly2\"},\"confidence\":[1,1],\"interest\":[1,1],\"parameters\":[[\"a\"]],\"support\":[1,1],\"template\":\"AtMost4\",\"why\":\"weaker\"},{\"by\":{\"parameters\":[[\"a\"]],\"template\":\"Exactly2\"},\"confidence\":[1,1],\"interest\":[1,1],\"parameters\":[[\"a\"]],\"support\":[1,1],\"template\":\"AtMost5\",\"why\":\"weaker\"},{\"by\":{\"parameters\":[[\"a\"]],\"template\":\"Exactly2\"},\"confidence\":[1,1],\"interest\":[1,1],\"parameters\":[[\"a\"]],\"support\":[1,1],\"template\":\"AtMost6\",\"why\":\"weaker\"},{\"by\":{\"parameters\":[[\"a\"]],\"template\":\"Exactly2\"},\"confidence\":[1,1],\"interest\":[1,1],\"parameters\":[[\"a\"]],\"support\":[1,1],\"template\":\"AtMost7\",\"why\":\"weaker\"},{\"by\":{\"parameters\":[[\"a\"]],\"template\":\"Exactly2\"},\"confidence\":[1,1],\"interest\":[1,1],\"parameters\":[[\"a\"]],\"support\":[1,1],\"template\":\"AtMost8\",\"why\":\"weaker\"},{\"by\":{\"parameters\":[[\"a\"]],\"template\":\"Exactly2\"},\"confidence\":[1,1],\"interest\":[1,1],\"parameters\":[[\"a\"]],\"support\":[1,1],\"template\":\"AtMost9\",\"why\":\"weaker\"}],\"events\":4,\"example\":[\"a\",\"a\"],\"tasks\":[\"a\"],\"traces\":2,\"version\":2}\n";
 
 /// The model of the trace é.
 const OF_E_ACUTE: &str =
@@ -155,10 +163,17 @@ fn models_are_printed(rt: HostRuntime) -> Result<(), Fail> {
         ("mine", "ab\nab\n", OF_AB),
         ("mine --stage model --max-states 5", "ab\nab\n", OF_AB),
         ("mine", "ab\r\nab", OF_AB),
+        ("mine --max-states 5 --on-limit keep", "ab\nab\n", OF_AB),
+        (
+            "mine --out table --max-states 4 --on-limit keep",
+            "ab\nab\n",
+            WITHIN_FOUR,
+        ),
         (LOOSE, "a\nb\n", OF_A_AND_B),
         (LOOSE, "b\na\n", OF_A_AND_B),
         (LOOSE_CSV, "case,activity\n1,a\n2,b\n", OF_A_AND_B),
         ("mine", "a\n", OF_A),
+        ("mine --repertoire 2", "aa\naa\n", OF_AA),
         ("mine", "é\n", OF_E_ACUTE),
     ];
     for (words, log, want) in cases {

@@ -118,6 +118,8 @@ fn reports_are_printed(rt: HostRuntime) -> Result<(), Fail> {
             "a\n",
             "     support   confidence     interest constraint\n         1/1          1/1          1/1 Init(\"a\")\n         1/1          1/1          1/1 End(\"a\")\n         1/1          1/1          1/1 Participation(\"a\")\n         1/1          1/1          1/1 AtMostOne(\"a\")\n",
         ),
+        ("regex AtMost2", "", "x*(ax*)?(ax*)?\n"),
+        ("regex Response aab", "", "yes\n"),
         (
             "gen --seed 0 --traces 2 --length 3 --letters 3",
             "",
@@ -145,7 +147,7 @@ fn reports_are_printed(rt: HostRuntime) -> Result<(), Fail> {
 
 #[test]
 fn refusals_are_told(rt: HostRuntime) -> Result<(), Fail> {
-    let cases: [(&str, &[u8], Status, &str); 13] = [
+    let cases: [(&str, &[u8], Status, &str); 15] = [
         ("", b"", Status::Usage, "minerful: usage, place 0\n"),
         (
             "mine --nosuch",
@@ -158,6 +160,18 @@ fn refusals_are_told(rt: HostRuntime) -> Result<(), Fail> {
             b"",
             Status::Usage,
             "minerful: usage, place 7\n",
+        ),
+        (
+            "mine --repertoire 3",
+            b"",
+            Status::Usage,
+            "minerful: usage, place 19\n",
+        ),
+        (
+            "regex Respond",
+            b"",
+            Status::Usage,
+            "minerful: usage, place 22\n",
         ),
         (
             "mine --out x --format y",

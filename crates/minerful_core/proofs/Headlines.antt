@@ -1,6 +1,6 @@
 -- The headline follows from what the outcome is.
-use Rattle.std.proofs.Common.{◌≡◌, ℕ, List, Bool, true, false, Option, Result, Ok, Err, IfSome, All, length, refl, ap, subst, ◌∙◌}
-use Rattle.std.specs.Prelude.{MatchBool, IfOk, nat_lt, slice_index_or}
+use Rattle.std.proofs.Common.{◌≡◌, ℕ, List, [], Bool, true, false, Option, Result, Ok, Err, IfSome, All, length, refl, ap, subst, ◌∙◌}
+use Rattle.std.specs.Prelude.{MatchBool, IfOk, nat_lt}
 use Rattle.std.specs.Io.KnownBytes.{append_known}
 use Rattle.std.proofs.lemmas.List.{length-map}
 use Rattle.decl_base.specs.Limits.{standard}
@@ -18,21 +18,18 @@ use Rattle.minerful_words.specs.declared.settings.Settings.{Settings}
 use Rattle.minerful_words.specs.declared.settings.Stage.TheVariants.{Model}
 use Rattle.reduce_model.proofs.Consequences.{keepable, left_out, witnesses-break}
 use Rattle.reduce_model.proofs.Meaning.{same-traces}
+use Rattle.reduce_model.proofs.MeaningWithin.{keepable-within, left_out_within, same-traces-within, within-many, witnesses-break-within}
 use Rattle.reduce_model.specs.Reduction.{IsReduction, Reduction}
-use Rattle.scoring.proofs.Members.{candidates_are}
+use Rattle.reduce_model.specs.Within.{IsReductionWithin}
 use Rattle.scoring.specs.Scores.{scored}
 use Rattle.template_core.specs.Constraints.{IsWellMadeFor}
-use Rattle.minerful_core.specs.Headline.{IsHeadline, MinesModel, PrintsModel}
+use Rattle.minerful_core.specs.Headline.{IsHeadline, IsHeadlineWithin, MinesModel, MinesWithin, PrintsModel, PrintsWithin}
 use Rattle.minerful_core.specs.Outcome.{answers, candidates_in, constraints_in, log_in, log_of, model_text, refuses, text_of_log, IsCommandOutcome, IsLogOutcome, IsModelOutcome, IsOutcome, IsOutcomeOf, IsSettingsOutcome, IsStageOutcome}
 use Rattle.minerful_core.specs.Run.{WritesOutput}
 use Rattle.minerful_core.proofs.Models.{constraints-staying}
 use Rattle.minerful_core.proofs.Refusing.{told}
-use Rattle.minerful_core.proofs.Reports.{at_any, candidates_in_made, made_constraints}
-
-exact : (s : Settings) (log : List (List (List ℕ))) → All (λ c. c ≡ scored (by_ranks log) c.constraint) (candidates_in s log)
-exact s log k d inside =
-    let c = slice_index_or (candidates_in s log) k d in
-    ((candidates_are (by_ranks log) (length (sorted_names log)) s.thresholds c).0 (k, inside, at_any (candidates_in s log) k d c inside)).scores
+use Rattle.minerful_core.proofs.Untested.{untested-at}
+use Rattle.minerful_core.proofs.Reports.{candidates_in_made, each_candidate, made_constraints}
 
 -- the sentence holds of each reduction of the candidates
 headline : (s : Settings) (log : List (List (List ℕ))) (reduction : Reduction) → IsReduction (length (sorted_names log)) s.states (constraints_in (candidates_in s log)) reduction
@@ -46,7 +43,7 @@ headline s log reduction h =
       all = refl;
       each = h.reduced.as_many ∙ length-map list (λ c. c.constraint);
       listed = constraints-staying list reduction.decisions;
-      scores = exact s log;
+      scores = each_candidate s log (λ c. c ≡ scored (by_ranks log) c.constraint) (λ c h. h.scores);
       same_traces = same-traces n cs reduction.decisions made h.reduced;
       conflicts = h.reduced.conflicts;
       some_trace = keepable n s.states cs reduction h;
@@ -54,36 +51,92 @@ headline s log reduction h =
       left_out = left_out n cs reduction.decisions made h.reduced;
     }
 
+-- and of each reduction within the limit
+headline_within : (s : Settings) (log : List (List (List ℕ))) (reduction : Reduction) → IsReductionWithin (length (sorted_names log)) s.states (constraints_in (candidates_in s log)) reduction
+    → IsHeadlineWithin s log (candidates_in s log) reduction
+headline_within s log reduction h =
+    let n = length (sorted_names log) in
+    let list = candidates_in s log in
+    let cs = constraints_in list in
+    let made : All (IsWellMadeFor n) cs = made_constraints n list cs refl (candidates_in_made s log) in
+    record {
+      all = refl;
+      each = within-many n s.states [] cs reduction.decisions h.reduced.sifted ∙ length-map list (λ c. c.constraint);
+      listed = constraints-staying list reduction.decisions;
+      scores = each_candidate s log (λ c. c ≡ scored (by_ranks log) c.constraint) (λ c h. h.scores);
+      same_traces = same-traces-within n s.states cs reduction.decisions made h.reduced;
+      some_trace = keepable-within n s.states cs reduction h;
+      witnesses = witnesses-break-within n s.states cs reduction h;
+      untested = untested-at n s.states [] [] cs reduction.decisions h.reduced.untested;
+      left_out = left_out_within n s.states cs reduction.decisions made h.reduced;
+    }
+
+-- ---- from the outcome of a log to what is printed
+
 second : (b : Bool) (P Q : Type 0) → (P → ⊥) → MatchBool b P Q → Q
 second true P Q never h = absurd (never h)
 second false P Q never h = h
 
-module _ (text : List ℕ) (old new : SinkState) (held : new.held ≡ append_known old.held text) where
-  of_log : (s : Settings) (bytes : List ℕ) (log : List (List (List ℕ))) → MinesModel s → log_of s.format s.columns bytes ≡ Ok log → IsLogOutcome Mine s log (answers status.Done text) → PrintsModel s bytes old new
-  of_log s bytes log mines read is =
-      let list = candidates_in s log in
-      let staged = second (nat_lt standard.candidates (length list)) (answers status.Done text ≡ refuses (refusal.Candidates (length list))) (IsStageOutcome s.stage s.out s.states list log (answers status.Done text)) (λ e. cc) is in
-      let modelled : IsStageOutcome Model s.out s.states list log (answers status.Done text) = subst (λ stage. IsStageOutcome stage s.out s.states list log (answers status.Done text)) mines.stage staged in
-      let told : IsModelOutcome (model_text Json list) s.states list log (answers status.Done text) = subst (λ out. IsStageOutcome Model out s.states list log (answers status.Done text)) mines.out modelled in
-      let same : answers status.Done text ≡ answers status.Done (text_of_log (model_text Json list told.0) log) = told.2 in
-      let text_is : text ≡ text_of_log (model_text Json list told.0) log = cc in
-      (log, list, told.0, read, held ∙ ap (append_known old.held) text_is, headline s log told.0 told.1)
+-- the outcome of the reduction that is printed as JSON
+reduced : (s : Settings) (log : List (List (List ℕ))) (text : List ℕ) → s.stage ≡ Model → s.out ≡ Json → IsLogOutcome Mine s log (answers status.Done text)
+    → IsModelOutcome s.keep (model_text Json s.repertoire (candidates_in s log)) s.states (candidates_in s log) log (answers status.Done text)
+reduced s log text stage out is =
+    let list = candidates_in s log in
+    let staged = second (nat_lt standard.candidates (length list)) (answers status.Done text ≡ refuses (refusal.Candidates (length list))) (IsStageOutcome s.stage s list log (answers status.Done text)) (λ e. cc) is in
+    let modelled : IsStageOutcome Model s list log (answers status.Done text) = subst (λ stage. IsStageOutcome stage s list log (answers status.Done text)) stage staged in
+    subst (λ out. IsModelOutcome s.keep (model_text out s.repertoire list) s.states list log (answers status.Done text)) out modelled
 
-  of_read : (s : Settings) (bytes : List ℕ) (read : Result (List (List (List ℕ))) Refusal) → MinesModel s → log_of s.format s.columns bytes ≡ read → IsOutcomeOf (IsLogOutcome Mine s) read (answers status.Done text) → PrintsModel s bytes old new
-  of_read s bytes (Err r) mines e is = absurd (cc)
-  of_read s bytes (Ok log) mines e is = of_log s bytes log mines e is
+same_text : (text other : List ℕ) → answers status.Done text ≡ answers status.Done other → text ≡ other
+same_text text other e = cc
 
-  of_words : (wanted : Result Settings ℕ) (contents : List ℕ → List ℕ) → IsSettingsOutcome wanted contents (answers status.Done text) → IfOk wanted (λ s. MinesModel s → PrintsModel s (contents s.log) old new)
-  of_words (Err at) contents is = tt
-  of_words (Ok s) contents is = λ mines.
-      of_read s (contents s.log) (log_in s contents) mines refl (subst (λ command. IsCommandOutcome command s contents (answers status.Done text)) mines.command is)
+-- of these settings, the outcome of a log prints this
+abbrev Shows : (Settings → Type 0) → (Settings → List ℕ → SinkState → SinkState → Type 0) → Type 0
+Shows Mines Prints =
+    (s : Settings) (bytes : List ℕ) (log : List (List (List ℕ))) (text : List ℕ) (old new : SinkState) → new.held ≡ append_known old.held text → Mines s → log_of s.format s.columns bytes ≡ Ok log
+    → IsLogOutcome Mine s log (answers status.Done text) → Prints s bytes old new
 
--- where a run ends well, its text is that of its outcome
+shows_model : Shows MinesModel PrintsModel
+shows_model s bytes log text old new held mines read is =
+    let list = candidates_in s log in
+    let told = subst (λ keep. IsModelOutcome keep (model_text Json s.repertoire list) s.states list log (answers status.Done text)) mines.stops (reduced s log text mines.stage mines.out is) in
+    let text_is = same_text text (text_of_log (model_text Json s.repertoire list told.0) log) told.2 in
+    (log, list, told.0, read, held ∙ ap (append_known old.held) text_is, headline s log told.0 told.1)
+
+shows_within : Shows MinesWithin PrintsWithin
+shows_within s bytes log text old new held mines read is =
+    let list = candidates_in s log in
+    let told = subst (λ keep. IsModelOutcome keep (model_text Json s.repertoire list) s.states list log (answers status.Done text)) mines.keeps (reduced s log text mines.stage mines.out is) in
+    let text_is = same_text text (text_of_log (model_text Json s.repertoire list told.0) log) told.2 in
+    (log, list, told.0, read, held ∙ ap (append_known old.held) text_is, headline_within s log told.0 told.1)
+
+-- ---- from the words to what is printed
+
+module _ (Mines : Settings → Type 0) (Prints : Settings → List ℕ → SinkState → SinkState → Type 0) (command : (s : Settings) → Mines s → s.command ≡ Mine) (shows : Shows Mines Prints) where
+  of_read : (s : Settings) (bytes text : List ℕ) (old new : SinkState) → new.held ≡ append_known old.held text → (read : Result (List (List (List ℕ))) Refusal) → Mines s → log_of s.format s.columns bytes ≡ read
+      → IsOutcomeOf (IsLogOutcome Mine s) read (answers status.Done text) → Prints s bytes old new
+  of_read s bytes text old new held (Err r) mines e is = absurd (cc)
+  of_read s bytes text old new held (Ok log) mines e is = shows s bytes log text old new held mines e is
+
+  of_words : (wanted : Result Settings ℕ) (contents : List ℕ → List ℕ) (text : List ℕ) (old new : SinkState) → new.held ≡ append_known old.held text
+      → IsSettingsOutcome wanted contents (answers status.Done text) → IfOk wanted (λ s. Mines s → Prints s (contents s.log) old new)
+  of_words (Err at) contents text old new held is = tt
+  of_words (Ok s) contents text old new held is = λ mines.
+      of_read s (contents s.log) text old new held (log_in s contents) mines refl (subst (λ command. IsCommandOutcome command s contents (answers status.Done text)) (command s mines) is)
+
+  -- where a run ends well, its text is that of its outcome
+  printed_of : (words : List (List ℕ)) (contents : Option (List ℕ → List ℕ)) (s : Status) → s ≡ status.Done → (old new : SinkState)
+      → IfSome contents (λ contents. WritesOutput (IsOutcome words contents) s old new) → IfSome contents (λ contents. IfOk (settings words) (λ given. Mines given → Prints given (contents given.log) old new))
+  printed_of words contents s done old new h =
+      told contents (λ c. WritesOutput (IsOutcome words c) status.Done old new) (λ c. IfOk (settings words) (λ given. Mines given → Prints given (c given.log) old new))
+      (λ c h. of_words (settings words) c h.0 old new h.2 h.1) (subst (λ s. IfSome contents (λ contents. WritesOutput (IsOutcome words contents) s old new)) done h)
+
 pub headline_of : (words : List (List ℕ)) (contents : Option (List ℕ → List ℕ)) (s : Status) → s ≡ status.Done → (old new : SinkState)
     → IfSome contents (λ contents. WritesOutput (IsOutcome words contents) s old new) → IfSome contents (λ contents. IfOk (settings words) (λ given. MinesModel given → PrintsModel given (contents given.log) old new))
-headline_of words contents s done old new h =
-    told contents (λ c. WritesOutput (IsOutcome words c) status.Done old new) (λ c. IfOk (settings words) (λ given. MinesModel given → PrintsModel given (c given.log) old new))
-    (λ c h. of_words h.0 old new h.2 (settings words) c h.1) (subst (λ s. IfSome contents (λ contents. WritesOutput (IsOutcome words contents) s old new)) done h)
+headline_of = printed_of MinesModel PrintsModel (λ s mines. mines.command) shows_model
+
+pub headline_keep_of : (words : List (List ℕ)) (contents : Option (List ℕ → List ℕ)) (s : Status) → s ≡ status.Done → (old new : SinkState)
+    → IfSome contents (λ contents. WritesOutput (IsOutcome words contents) s old new) → IfSome contents (λ contents. IfOk (settings words) (λ given. MinesWithin given → PrintsWithin given (contents given.log) old new))
+headline_keep_of = printed_of MinesWithin PrintsWithin (λ s mines. mines.command) shows_within
 
 -- a refusal has another status
 pub not_done : (r : Refusal) → status_of r ≡ status.Done → ⊥

@@ -1,5 +1,5 @@
 -- Logs of ranks with the same sums have the same scores, the same candidates, and the same counters.
-use Rattle.std.proofs.Common.{◌≡◌, ℕ, List, [], ◌∷◌, ◌++◌, true, ◌||◌, ◌&&◌, cond, map, filter, length, count_by, sum_by, nat_eq, refl, sym, ap, ap₂, ◌∙◌}
+use Rattle.std.proofs.Common.{◌≡◌, ℕ, ◌+◌, List, [], ◌∷◌, ◌++◌, true, ◌||◌, ◌&&◌, cond, map, filter, length, count_by, sum_by, nat_eq, refl, sym, ap, ap₂, ◌∙◌}
 use Rattle.std.specs.Prelude.{◌==◌, codes, decimal, min, nat_lt}
 use Rattle.std.specs.List.{flat_map, range_with_len}
 use Rattle.report_text.specs.Fields.{columns, quoted_at}
@@ -14,8 +14,9 @@ use Rattle.template_core.specs.declared.constraint.Constraint.{Constraint}
 use Rattle.template_core.specs.declared.group.Group.{Group}
 use Rattle.template_core.specs.declared.group.Group.TheVariants.{Existence, Relation, Mutual, Negative}
 use Rattle.template_core.specs.declared.kind.Kind.{Kind}
+use Rattle.template_core.specs.declared.repertoire.Repertoire.{Repertoire}
 use Rattle.template_set.specs.Numbers.{numbers_of}
-use Rattle.scoring.specs.Candidates.{candidates_of, constraints_over, reaches_all, reaching}
+use Rattle.scoring.specs.Candidates.{candidates_of, constraints_over, mined_kinds, reaches_all, reaching}
 use Rattle.scoring.specs.Priority.{in_order, priority_cmp}
 use Rattle.scoring.specs.Scores.{scored, scored_from}
 use Rattle.scoring.proofs.ByPair.{length-count}
@@ -62,10 +63,10 @@ module _ (xs ys : List (List ℕ)) (h : SumAlike xs ys) where
   unfolding scored
   same_scores c = ap₂ (scored_from c) (same_numbers c.kind c.first c.second) same_length
 
-  pub same_candidates : (n : ℕ) (thresholds : Thresholds) → candidates_of xs n thresholds ≡ candidates_of ys n thresholds
+  pub same_candidates : (n : ℕ) (repertoire : Repertoire) (thresholds : Thresholds) → candidates_of xs n repertoire thresholds ≡ candidates_of ys n repertoire thresholds
   unfolding candidates_of reaching
-  same_candidates n thresholds =
-      ap (λ list. in_order priority_cmp (filter (reaches_all thresholds) list)) (map-same (scored xs) (scored ys) same_scores (constraints_over n))
+  same_candidates n repertoire thresholds =
+      ap (λ list. in_order priority_cmp (filter (reaches_all thresholds) list)) (map-same (scored xs) (scored ys) same_scores (constraints_over (mined_kinds repertoire) n))
 
   -- ---- the counters
 
@@ -76,7 +77,9 @@ module _ (xs ys : List (List ℕ)) (h : SumAlike xs ys) where
       let repeated : count_by (λ trace. nat_lt 1 (occurrences nat_eq a trace)) xs ≡ count_by (λ trace. nat_lt 1 (occurrences nat_eq a trace)) ys = h _ in
       let first : count_by (is_first nat_eq a) xs ≡ count_by (is_first nat_eq a) ys = h _ in
       let last : count_by (is_last nat_eq a) xs ≡ count_by (is_last nat_eq a) ys = h _ in
-      cc (occurrences_, traces, repeated, first, last)
+      let exact : map (λ k. count_by (λ trace. occurrences nat_eq a trace == k + 1) xs) (range_with_len 0 9) ≡ map (λ k. count_by (λ trace. occurrences nat_eq a trace == k + 1) ys) (range_with_len 0 9)
+      = map-same _ _ (λ k. h (λ trace. cond (occurrences nat_eq a trace == k + 1) 1 0)) (range_with_len 0 9) in
+      cc (occurrences_, traces, repeated, first, last, exact)
 
   same_pair : (a b : ℕ) → pair_counts a b xs ≡ pair_counts a b ys
   same_pair a b =

@@ -1,43 +1,45 @@
-ghost use Rattle.std.specs.Prelude.{◌≡◌, ◌<◌, length, All, IfOk, IfErr};
-ghost use Rattle.model_json.specs.Report.{staying};
+ghost use Rattle.std.specs.Prelude.{◌≡◌, ◌<◌, length, count_by, All, IfOk, IfErr};
+ghost use Rattle.model_json.specs.Model.{AreOf};
+ghost use Rattle.model_json.specs.Report.{is_tested};
 ghost use Rattle.template_core.specs.Constraints.{IsWellMadeFor};
 ghost use Rattle.minerful_core.specs.Outcome.{scores_text, consistent_text, model_text};
 
 use decl_base::Refusal;
 use event_log::Alphabet;
-use minerful_words::Out;
+use minerful_words::{Out, Settings};
 use model_json::{consistent_value, report_value, scores_value, text_of};
 use reduce_model::{Reduced, Sifted};
 use report_text::{consistent_table, model_table, scores_table};
 use scoring::Scored;
 use std::alloc::Global;
 
-/// Candidates at stage `scores`, over names in byte order, as JSON or as table.
+/// Candidates at stage `scores`, over names in byte order, as JSON or as table, as the settings say.
 pub(crate) fn write_scores(
     alloc: Global,
-    out: Out,
+    settings: &Settings,
     names: &Alphabet,
     list: &[Scored],
     traces: u64,
     events: u64,
 ) -> Result<Vec<u8>, Refusal>
-    requires { All (λ scored. IsWellMadeFor (length names.now.names) scored.constraint) list.now }
-    ensures text { IfOk result (λ text. text.items ≡ scores_text out list.now names.now.names traces events) }
+    requires made { All (λ scored. IsWellMadeFor (length names.now.names) scored.constraint) list.now }
+    requires repertoire { AreOf settings.now.repertoire list.now }
+    ensures text { IfOk result (λ text. text.items ≡ scores_text settings.now.out settings.now.repertoire list.now names.now.names traces events) }
     ensures err { IfErr result (λ e. e ≡ Refusal.Memory) }
 {
-    match out {
+    match settings.out {
         Out::Json => {
-            let value = scores_value(alloc, names, list, traces, events)?;
+            let value = scores_value(alloc, names, settings.repertoire, list, traces, events)?;
             text_of(alloc, &value)
         }
         Out::Table => scores_table(alloc, names, list),
     }
 }
 
-/// Candidates at stage `consistent`, over names in byte order, as JSON or as table.
+/// Candidates at stage `consistent`, over names in byte order, as JSON or as table, as the settings say.
 pub(crate) fn write_consistent(
     alloc: Global,
-    out: Out,
+    settings: &Settings,
     names: &Alphabet,
     list: &[Scored],
     sifted: &Sifted,
@@ -45,24 +47,33 @@ pub(crate) fn write_consistent(
     events: u64,
 ) -> Result<Vec<u8>, Refusal>
     requires made { All (λ scored. IsWellMadeFor (length names.now.names) scored.constraint) list.now }
+    requires repertoire { AreOf settings.now.repertoire list.now }
     requires decisions { length sifted.now.decisions ≡ length list.now }
     requires example { All (λ rank. rank < length names.now.names) sifted.now.example }
-    ensures text { IfOk result (λ text. text.items ≡ consistent_text out list.now sifted.now names.now.names traces events) }
+    ensures text { IfOk result (λ text. text.items ≡ consistent_text settings.now.out settings.now.repertoire list.now sifted.now names.now.names traces events) }
     ensures err { IfErr result (λ e. e ≡ Refusal.Memory) }
 {
-    match out {
+    match settings.out {
         Out::Json => {
-            let value = consistent_value(alloc, names, list, sifted, traces, events)?;
+            let value = consistent_value(
+                alloc,
+                names,
+                settings.repertoire,
+                list,
+                sifted,
+                traces,
+                events,
+            )?;
             text_of(alloc, &value)
         }
         Out::Table => consistent_table(alloc, names, list, sifted),
     }
 }
 
-/// Candidates at stage `model`, over names in byte order, as JSON or as table.
+/// Candidates at stage `model`, over names in byte order, as JSON or as table, as the settings say.
 pub(crate) fn write_model(
     alloc: Global,
-    out: Out,
+    settings: &Settings,
     names: &Alphabet,
     list: &[Scored],
     reduced: &Reduced,
@@ -70,16 +81,25 @@ pub(crate) fn write_model(
     events: u64,
 ) -> Result<Vec<u8>, Refusal>
     requires made { All (λ scored. IsWellMadeFor (length names.now.names) scored.constraint) list.now }
+    requires repertoire { AreOf settings.now.repertoire list.now }
     requires decisions { length reduced.now.decisions ≡ length list.now }
-    requires witnesses { length reduced.now.witnesses ≡ length (staying list.now reduced.now.decisions) }
+    requires witnesses { length reduced.now.witnesses ≡ count_by is_tested reduced.now.decisions }
     requires witness { All (λ trace. All (λ rank. rank < length names.now.names) trace) reduced.now.witnesses }
     requires example { All (λ rank. rank < length names.now.names) reduced.now.example }
-    ensures text { IfOk result (λ text. text.items ≡ model_text out list.now reduced.now names.now.names traces events) }
+    ensures text { IfOk result (λ text. text.items ≡ model_text settings.now.out settings.now.repertoire list.now reduced.now names.now.names traces events) }
     ensures err { IfErr result (λ e. e ≡ Refusal.Memory) }
 {
-    match out {
+    match settings.out {
         Out::Json => {
-            let value = report_value(alloc, names, list, reduced, traces, events)?;
+            let value = report_value(
+                alloc,
+                names,
+                settings.repertoire,
+                list,
+                reduced,
+                traces,
+                events,
+            )?;
             text_of(alloc, &value)
         }
         Out::Table => model_table(alloc, names, list, reduced),

@@ -3,3 +3,4 @@ pub mod Numerals
 pub mod Simple
 pub mod Taken
 pub mod Tables
+pub mod Named

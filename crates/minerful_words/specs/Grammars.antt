@@ -1,10 +1,12 @@
 -- What the text of an option means, where it is in the grammar of the option.
-use Rattle.std.specs.Prelude.{◌≤◌, ℕ, List, Bool, ◌&&◌, Option, Some, None, codes, length, nat_le, if◌then◌else◌, option_and_then}
+use Rattle.std.specs.Prelude.{◌≤◌, ℕ, List, Bool, true, false, ◌&&◌, Option, Some, None, codes, length, nat_le, if◌then◌else◌, option_and_then}
 use Rattle.std.specs.List.{list_all}
 use Rattle.std.specs.Str.{bytes_eq}
 use Rattle.decl_base.specs.Threshold.{is_digit, number_of_digits}
 use Rattle.log_columns.specs.declared.OrderAs.{OrderAs}
 use Rattle.log_columns.specs.declared.OrderAs.TheVariants as order
+use Rattle.template_core.specs.declared.repertoire.Repertoire.{Repertoire}
+use Rattle.template_core.specs.declared.repertoire.Repertoire.TheVariants as repertoire
 use Rattle.minerful_words.specs.declared.settings.Format.{Format}
 use Rattle.minerful_words.specs.declared.settings.Format.TheVariants as format
 use Rattle.minerful_words.specs.declared.settings.Stage.{Stage}
@@ -75,3 +77,14 @@ unfoldable pub out_of : List ℕ → Option Out
 out_of text =
     if bytes_eq text (codes "json") then Some out.Json
     else (if bytes_eq text (codes "table") then Some out.Table else None)
+
+unfoldable pub repertoire_of : List ℕ → Option Repertoire
+repertoire_of text =
+    if bytes_eq text (codes "1") then Some repertoire.First
+    else (if bytes_eq text (codes "2") then Some repertoire.Second else None)
+
+-- whether a run keeps on where the limit on states is met
+unfoldable pub keep_of : List ℕ → Option Bool
+keep_of text =
+    if bytes_eq text (codes "stop") then Some false
+    else (if bytes_eq text (codes "keep") then Some true else None)

@@ -1,5 +1,5 @@
 -- The settings that the words of the command line give, or the place of their fault.
-use Rattle.std.specs.Prelude.{◌≡◌, ◌≤◌, ◌*◌, ℕ, List, [], ◌∷◌, codes, Bool, ◌&&◌, nat_le, Option, Some, None, Result, Ok, Err, unwrap_or, option_map, if◌then◌else◌}
+use Rattle.std.specs.Prelude.{◌≡◌, ◌≤◌, ◌*◌, ℕ, List, [], ◌∷◌, codes, Bool, false, ◌&&◌, nat_le, Option, Some, None, IsSome, Result, Ok, Err, unwrap_or, option_map, if◌then◌else◌}
 use Rattle.std.specs.Option.{ok_or}
 use Rattle.std.specs.Str.{bytes_eq}
 use Rattle.clap.specs.Words.{Row, Text, first_of}
@@ -10,11 +10,14 @@ use Rattle.decl_base.specs.declared.threshold.Threshold.{Threshold}
 use Rattle.decl_base.specs.declared.threshold.Thresholds.{Thresholds}
 use Rattle.log_columns.specs.declared.Columns.{Columns}
 use Rattle.log_columns.specs.declared.OrderAs.TheVariants as order
+use Rattle.template_core.specs.declared.kind.Kind.{Kind}
+use Rattle.template_core.specs.declared.repertoire.Repertoire.TheVariants as repertoire
 use Rattle.minerful_words.specs.Apps.{app_for, taken}
-use Rattle.minerful_words.specs.Grammars.{IsBetween, number_between, most_states, most_seed, most_traces, most_length, most_letters, format_of, order_as_of, stage_of, out_of}
+use Rattle.minerful_words.specs.Grammars.{IsBetween, number_between, most_states, most_seed, most_traces, most_length, most_letters, format_of, order_as_of, stage_of, out_of, repertoire_of, keep_of}
+use Rattle.minerful_words.specs.Templates.{kind_named, is_word_if_any}
 use Rattle.minerful_words.specs.Table.{OptionRow, options, row_named, takes, is_command}
 use Rattle.minerful_words.specs.declared.settings.Command.{Command}
-use Rattle.minerful_words.specs.declared.settings.Command.TheVariants.{Mine, Kb, Check, Gen, Sample}
+use Rattle.minerful_words.specs.declared.settings.Command.TheVariants.{Mine, Kb, Check, Gen, Sample, Regex}
 use Rattle.minerful_words.specs.declared.settings.Format.TheVariants as format
 use Rattle.minerful_words.specs.declared.settings.Stage.TheVariants as stage
 use Rattle.minerful_words.specs.declared.settings.Out.TheVariants as out
@@ -64,6 +67,9 @@ without_options command found = record {
   traces = 100;
   length = 10;
   letters = 4;
+  repertoire = repertoire.First;
+  keep = false;
+  word = first_of (codes "word") found;
 }
 
 -- ---- what is given
@@ -88,6 +94,8 @@ put field.Seed text s = option_map (λ v. record s { seed = v }) (number_between
 put field.Traces text s = option_map (λ v. record s { traces = v }) (number_between 0 most_traces text)
 put field.Length text s = option_map (λ v. record s { length = v }) (number_between 1 most_length text)
 put field.Letters text s = option_map (λ v. record s { letters = v }) (number_between 1 most_letters text)
+put field.Repertoire text s = option_map (λ v. record s { repertoire = v }) (repertoire_of text)
+put field.OnLimit text s = option_map (λ v. record s { keep = v }) (keep_of text)
 
 -- the text of an option among those found: none where the command doesn't take it
 abbrev pub text_for : Command → List Row → OptionRow → Option Text
@@ -119,16 +127,26 @@ most_events = 16777215
 abbrev pub is_log_small : Settings → Bool
 is_log_small s = nat_le (s.traces * s.length) most_events
 
--- standard input is read once, and a generated log is small enough
+-- the template is known, and the word is one of its letters
+abbrev pub with_template : Settings → Option Kind → Result Settings ℕ
+with_template s None = Err 22
+with_template s (Some kind) = if is_word_if_any kind s.word then Ok s else Err 23
+
+-- where an expression is asked for, its template is known
+abbrev pub expression_asked : Settings → Result Settings ℕ
+expression_asked s = if is_command Regex s.command then with_template s (kind_named s.model) else Ok s
+
+-- standard input is read once, a generated log is small enough, and an expression is that of a template
 unfoldable pub together : Settings → Result Settings ℕ
-together s = if reads_standard_input_twice s then Err 17 else (if is_log_small s then Ok s else Err 18)
+together s = if reads_standard_input_twice s then Err 17 else (if is_log_small s then expression_asked s else Err 18)
 
 unfoldable pub settings_in : Command → List Row → Result Settings ℕ
 settings_in command found = with_texts options command found (without_options command found) >>= together
 
 -- The settings, or a number: 0 where the first word names no command; else 1 where the command doesn't take the
 -- words; else the least number of an option whose text isn't in its grammar; else 17 where a check reads standard
--- input twice; else 18 where a generated log may have too many events.
+-- input twice; else 18 where a generated log may have too many events; else 22 where an expression is asked for and the
+-- name is no template's; else 23 where its word is too long or has a letter that the template doesn't have.
 unfoldable pub settings : List Text → Result Settings ℕ
 settings [] = Err 0
 settings (word ∷ words) = do
@@ -143,6 +161,7 @@ inputs_for Kb settings = settings.log ∷ []
 inputs_for Check settings = settings.model ∷ settings.log ∷ []
 inputs_for Gen settings = []
 inputs_for Sample settings = []
+inputs_for Regex settings = []
 
 -- the names of the inputs that a command with these settings reads
 abbrev pub inputs_of_settings : Result Settings ℕ → List Text
@@ -159,6 +178,10 @@ pub record AreFractions (thresholds : Thresholds) : Type 0 where
   pub support : thresholds.support.millionths ≤ 1000000
   pub confidence : thresholds.confidence.millionths ≤ 1000000
   pub interest : thresholds.interest.millionths ≤ 1000000
+
+-- an expression is asked for a template only
+abbrev pub NamesTemplate : Settings → Type 0
+NamesTemplate s = s.command ≡ Regex → IsSome (kind_named s.model)
 
 -- a log can be generated with these numbers: it is within the limits on traces and events, whatever is drawn
 pub record CanGenerate (seed traces length letters : ℕ) : Type 0 where

@@ -4,7 +4,7 @@ use Rattle.std.specs.List.{list_any}
 use Rattle.std.specs.Str.{bytes_eq}
 use Rattle.clap.specs.Words.{Text}
 use Rattle.minerful_words.specs.declared.settings.Command.{Command}
-use Rattle.minerful_words.specs.declared.settings.Command.TheVariants.{Mine, Kb, Check, Gen, Sample}
+use Rattle.minerful_words.specs.declared.settings.Command.TheVariants.{Mine, Kb, Check, Gen, Sample, Regex}
 use Rattle.minerful_words.specs.declared.table.Field.{Field}
 use Rattle.minerful_words.specs.declared.table.Field.TheVariants as field
 
@@ -63,15 +63,21 @@ options =
     ∷ option 14 (codes "traces") writing field.Traces
     ∷ option 15 (codes "length") writing field.Length
     ∷ option 16 (codes "letters") writing field.Letters
+    ∷ option 19 (codes "repertoire") mining field.Repertoire
+    ∷ option 20 (codes "on-limit") mining field.OnLimit
     ∷ []
 
--- the model, which must be there
+-- the model, which must be there; to `regex` it is the name of a template
 abbrev model : PositionalRow
 model = record { name = codes "model"; is_required = true }
 
 -- the log, which need not be there
 abbrev log : PositionalRow
 log = record { name = codes "log"; is_required = false }
+
+-- the word that an expression is tried on, which need not be there
+abbrev word : PositionalRow
+word = record { name = codes "word"; is_required = false }
 
 unfoldable pub commands : List CommandRow
 commands =
@@ -80,6 +86,7 @@ commands =
     ∷ record { command = Check; name = codes "check"; positionals = model ∷ log ∷ [] }
     ∷ record { command = Gen; name = codes "gen"; positionals = [] }
     ∷ record { command = Sample; name = codes "sample"; positionals = [] }
+    ∷ record { command = Regex; name = codes "regex"; positionals = model ∷ word ∷ [] }
     ∷ []
 
 -- the command of this name
@@ -92,6 +99,7 @@ is_command Kb Kb = true
 is_command Check Check = true
 is_command Gen Gen = true
 is_command Sample Sample = true
+is_command Regex Regex = true
 is_command _ _ = false
 
 -- whether the command takes the option

@@ -4,18 +4,19 @@ ghost use Rattle.std.specs.Prelude.{◌≡◌, ◌*◌, ◌≤◌, Ok, Some, OnO
 ghost use Rattle.std.specs.Option.{ok_or};
 ghost use Rattle.clap.specs.Words.{found_of, rows_of};
 ghost use Rattle.minerful_words.specs.Rows.{option_row};
-ghost use Rattle.minerful_words.specs.Settings.{Gives, Refuses, most_events, put, reads_standard_input_twice, together, with_text, without_options};
+ghost use Rattle.minerful_words.specs.Settings.{Gives, NamesTemplate, Refuses, most_events, put, reads_standard_input_twice, together, with_text, without_options};
 ghost use Rattle.minerful_words.specs.Settings.{settings_in as settings_of_found, text_for as text_of_option};
 ghost use Rattle.minerful_words.specs.Steps.{IsBounded};
 
 use crate::clap_command::text_of;
-use crate::grammars::{number_between, order_as_named};
+use crate::grammars::{keep_named, number_between, order_as_named, repertoire_numbered};
 use crate::settings::{Command, Format, Out, Settings, Stage};
 use crate::table::{CommandOption, Field};
 use clap::ArgMatches;
 use decl_base::{Name, Refusal, Threshold, Thresholds};
 use log_columns::{Columns, OrderAs};
 use std::alloc::Global;
+use template_core::Repertoire;
 
 const SUPPORT: Threshold = Threshold {
     millionths: 950_000,
@@ -57,6 +58,7 @@ pub(crate) fn settings_in(
     ensures value { Gives result (settings_of_found command (rows_of (found_of found.now))) }
     ensures bounded { IfOk result IsBounded }
     ensures events { IfOk result (λ s. s.traces * s.length ≤ most_events) }
+    ensures template { IfOk result NamesTemplate }
 {
     let mut settings = Settings::without_options(alloc, command, found)?;
     for option in CommandOption::all() {
@@ -75,6 +77,17 @@ fn text_for<'a>(command: Command, found: &ArgMatches<'a>, option: &CommandOption
         text_of(found, option.name)
     } else {
         None
+    }
+}
+
+/// The text as a name, where there is one.
+fn name_if_any(alloc: Global, text: Option<&str>) -> Result<Option<Name>, Refusal>
+    ensures value { IfOk result (λ name. name ≡ option_map (λ s. s.now) text.entry) }
+    ensures err { IfErr result (λ e. e ≡ Refusal.Memory) }
+{
+    match text {
+        Some(text) => Ok(Some(Name::of(alloc, text)?)),
+        None => Ok(None),
     }
 }
 
@@ -113,6 +126,9 @@ impl Settings {
             traces: 100,
             length: 10,
             letters: 4,
+            repertoire: Repertoire::First,
+            keep: false,
+            word: name_if_any(alloc, text_of(found, "word"))?,
         })
     }
 
@@ -157,15 +173,19 @@ impl Settings {
             Field::Traces => self.traces = number_between(text, 0, MOST_TRACES).ok_or(fault)?,
             Field::Length => self.length = number_between(text, 1, MOST_LENGTH).ok_or(fault)?,
             Field::Letters => self.letters = number_between(text, 1, MOST_LETTERS).ok_or(fault)?,
+            Field::Repertoire => self.repertoire = repertoire_numbered(text).ok_or(fault)?,
+            Field::OnLimit => self.keep = keep_named(text).ok_or(fault)?,
         }
         Ok(())
     }
 
-    /// Whether the settings fit together: standard input is read once, and a generated log is small enough.
+    /// Whether the settings fit together: standard input is read once, a generated log is small enough, and an expression
+    /// is that of a template.
     #[tactic(auto, unfolding(crate::specs::Settings::together))]
     fn fit_together(&self) -> Result<(), Refusal>
         requires { IsBounded self.now }
         ensures ok { OnOk result (together self.now ≡ Ok self.now) }
+        ensures template { OnOk result (NamesTemplate self.now) }
         ensures events { OnOk result (self.now.traces * self.now.length ≤ most_events) }
         ensures err { IfErr result (λ e. Refuses e (together self.now)) }
     {
@@ -175,7 +195,7 @@ impl Settings {
         if self.traces * self.length > MOST_EVENTS {
             return Err(Refusal::Usage { at: 18 });
         }
-        Ok(())
+        self.name_template()
     }
 
     fn reads_standard_input_twice(&self) -> bool

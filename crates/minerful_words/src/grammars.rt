@@ -1,9 +1,10 @@
 ghost use Rattle.std.specs.Prelude.{◌≡◌, IfSome};
 ghost use Rattle.std.specs.List.{list_all};
 ghost use Rattle.decl_base.specs.Threshold.{is_digit};
-ghost use Rattle.minerful_words.specs.Grammars.{IsBetween, order_as_of, number_between as number_between_of, whole_number_of, is_whole_number as has_whole_number_form};
+ghost use Rattle.minerful_words.specs.Grammars.{IsBetween, keep_of, order_as_of, repertoire_of, number_between as number_between_of, whole_number_of, is_whole_number as has_whole_number_form};
 
 use log_columns::OrderAs;
+use template_core::Repertoire;
 
 /// The number of digits that a whole number has at most.
 const DIGITS: usize = 10;
@@ -15,6 +16,29 @@ pub(crate) fn order_as_named(text: &str) -> Option<OrderAs>
     match text {
         "text" => Some(OrderAs::Text),
         "number" => Some(OrderAs::Number),
+        _ => None,
+    }
+}
+
+#[tactic(auto, unfolding(crate::specs::Grammars::repertoire_of))]
+pub(crate) fn repertoire_numbered(text: &str) -> Option<Repertoire>
+    ensures { result ≡ repertoire_of text.now }
+{
+    match text {
+        "1" => Some(Repertoire::First),
+        "2" => Some(Repertoire::Second),
+        _ => None,
+    }
+}
+
+/// Whether a run keeps on where the limit on states is met.
+#[tactic(auto, unfolding(crate::specs::Grammars::keep_of))]
+pub(crate) fn keep_named(text: &str) -> Option<bool>
+    ensures { result ≡ keep_of text.now }
+{
+    match text {
+        "stop" => Some(false),
+        "keep" => Some(true),
         _ => None,
     }
 }

@@ -6,6 +6,7 @@ mod clap_command;
 mod grammars;
 mod settings;
 mod table;
+mod templates;
 #[cfg(test)]
 mod tests;
 

@@ -1,6 +1,6 @@
 ghost use Rattle.std.specs.Prelude.{◌≡◌, IfOk, map, string_bytes};
 ghost use Rattle.minerful_words.specs.Grammars.{IsLimit, format_of, stage_of, out_of};
-ghost use Rattle.minerful_words.specs.Settings.{settings, Gives, AreFractions, CanGenerate};
+ghost use Rattle.minerful_words.specs.Settings.{settings, Gives, AreFractions, CanGenerate, NamesTemplate};
 
 use crate::choices::settings_in;
 use crate::clap_command::parse;
@@ -8,6 +8,7 @@ use crate::table::CommandForm;
 use decl_base::{Name, Refusal, Thresholds};
 use log_columns::Columns;
 use std::alloc::Global;
+use template_core::Repertoire;
 
 /// What a run does.
 #[derive(Clone, Copy, Debug, PartialEq, Eq)]
@@ -22,6 +23,8 @@ pub enum Command {
     Gen,
     /// Shows a summary of mining a generated log.
     Sample,
+    /// Shows the regular expression of a template, or tries it on a word.
+    Regex,
 }
 
 /// How a log is written.
@@ -53,7 +56,8 @@ pub enum Out {
 #[derive(Debug, Drop)]
 pub struct Settings {
     pub command: Command,
-    /// The name of the model's input, `-` for standard input. Empty where the command reads no model.
+    /// The name of the model's input, `-` for standard input; of `regex`, the name of a template. Empty where the command
+    /// takes neither.
     pub model: Name,
     /// The name of the log's input, `-` for standard input.
     pub log: Name,
@@ -72,19 +76,27 @@ pub struct Settings {
     pub length: u64,
     /// The number of letters of a generated log, from 1 to 26.
     pub letters: u64,
+    /// The templates whose constraints are mined.
+    pub repertoire: Repertoire,
+    /// Whether a constraint whose list is too wide is left out or left untested, in place of refusing the log.
+    pub keep: bool,
+    /// The word that `regex` tries.
+    pub word: Option<Name>,
 }
 
 impl Settings {
     /// The settings that the words after the program's name give. `Usage` is 0 where the first word names no command,
     /// 1 where the command doesn't take the words, else the least number of an option whose value isn't in its
-    /// grammar, else 17 where a check reads both its model and its log from standard input, and else 18 where the
-    /// number of traces times their length is above 16,777,215.
+    /// grammar, else 17 where a check reads both its model and its log from standard input, else 18 where the
+    /// number of traces times their length is above 16,777,215, else 22 where `regex` has no template's name, and else 23
+    /// where its word has more than 64 characters or one that isn't a letter of the template.
     #[tactic(auto, unfolding(crate::specs::Settings::settings))]
     pub fn read(alloc: Global, words: &[String]) -> Result<Settings, Refusal>
         ensures value { Gives result (settings (map string_bytes words.now)) }
         ensures thresholds { IfOk result (λ s. AreFractions s.thresholds) }
         ensures states { IfOk result (λ s. IsLimit s.states) }
         ensures generator { IfOk result (λ s. CanGenerate s.seed s.traces s.length s.letters) }
+        ensures template { IfOk result NamesTemplate }
     {
         let Some(word) = words.first() else {
             return Err(Refusal::Usage { at: 0 });

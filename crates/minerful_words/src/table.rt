@@ -24,6 +24,8 @@ pub(crate) enum Field {
     Traces,
     Length,
     Letters,
+    Repertoire,
+    OnLimit,
 }
 
 /// An option with one text, and the commands that take it.
@@ -60,7 +62,7 @@ const GENERATING: &[Command] = &[Command::Gen, Command::Sample];
 /// The commands that write the log that they generate.
 const WRITING: &[Command] = &[Command::Gen];
 
-const OPTIONS: [CommandOption; 15] = [
+const OPTIONS: [CommandOption; 17] = [
     CommandOption {
         number: 2,
         name: "format",
@@ -151,8 +153,21 @@ const OPTIONS: [CommandOption; 15] = [
         commands: WRITING,
         field: Field::Letters,
     },
+    CommandOption {
+        number: 19,
+        name: "repertoire",
+        commands: MINING,
+        field: Field::Repertoire,
+    },
+    CommandOption {
+        number: 20,
+        name: "on-limit",
+        commands: MINING,
+        field: Field::OnLimit,
+    },
 ];
 
+/// The model; to `regex`, the name of a template.
 const MODEL: Positional = Positional {
     name: "model",
     is_required: true,
@@ -164,7 +179,13 @@ const LOG: Positional = Positional {
     is_required: false,
 };
 
-const COMMANDS: [CommandForm; 5] = [
+/// The word that an expression is tried on.
+const WORD: Positional = Positional {
+    name: "word",
+    is_required: false,
+};
+
+const COMMANDS: [CommandForm; 6] = [
     CommandForm {
         command: Command::Mine,
         name: "mine",
@@ -189,6 +210,11 @@ const COMMANDS: [CommandForm; 5] = [
         command: Command::Sample,
         name: "sample",
         positionals: &[],
+    },
+    CommandForm {
+        command: Command::Regex,
+        name: "regex",
+        positionals: &[MODEL, WORD],
     },
 ];
 

@@ -24,6 +24,7 @@ const REFUSED: &[(&str, u32)] = &[
     ("mine --case-column -x", 1),
     ("mine --seed 1", 1),
     ("kb --support 1", 1),
+    ("sample --repertoire 1", 1),
     ("check", 1),
     ("gen a", 1),
     ("sample --traces 1", 1),
@@ -43,10 +44,23 @@ const REFUSED: &[(&str, u32)] = &[
     ("gen --length 1001", 15),
     ("gen --letters 0", 16),
     ("gen --letters 27", 16),
+    ("mine --repertoire 3", 19),
+    ("mine --repertoire 01", 19),
+    ("mine --on-limit go", 20),
+    ("mine --on-limit go --repertoire 3", 19),
     ("check - -", 17),
     ("check -", 17),
     ("gen --traces 1048575 --length 1000", 18),
     ("gen --traces 32768 --length 512", 18),
+    ("regex Response a b", 1),
+    ("regex Respond", 22),
+    ("regex Respond y", 22),
+    ("regex Init b", 23),
+    ("regex Response y", 23),
+    (
+        "regex Init aaaaaaaaaaaaaaaaaaaaaaaaaaaaaaaaaaaaaaaaaaaaaaaaaaaaaaaaaaaaaaaaa",
+        23,
+    ),
 ];
 
 #[test]
@@ -64,28 +78,32 @@ fn lines_that_are_refused(rt: HostRuntime) -> Result<(), Fail> {
 /// Lines, and how `Debug` writes the settings of each.
 const TAKEN: &[(&str, &str)] = &[
     (
-        "mine --order-as number --stage consistent --confidence=1.000000 --support 0.5 --order-column n --format csv --max-states 0000000007 --out table a.csv",
-        "Settings { command: Mine, model: Name { text: \"\" }, log: Name { text: \"a.csv\" }, format: Csv, columns: Columns { case: Name { text: \"case\" }, activity: Name { text: \"activity\" }, order: Some(Name { text: \"n\" }), order_as: Number }, thresholds: Thresholds { support: Threshold { millionths: 500000 }, confidence: Threshold { millionths: 1000000 }, interest: Threshold { millionths: 125000 } }, states: 7, stage: Consistent, out: Table, seed: 0, traces: 100, length: 10, letters: 4 }",
+        "mine --on-limit keep --repertoire 2 --order-as number --stage consistent --confidence=1.000000 --support 0.5 --order-column n --format csv --max-states 0000000007 --out table a.csv",
+        "Settings { command: Mine, model: Name { text: \"\" }, log: Name { text: \"a.csv\" }, format: Csv, columns: Columns { case: Name { text: \"case\" }, activity: Name { text: \"activity\" }, order: Some(Name { text: \"n\" }), order_as: Number }, thresholds: Thresholds { support: Threshold { millionths: 500000 }, confidence: Threshold { millionths: 1000000 }, interest: Threshold { millionths: 125000 } }, states: 7, stage: Consistent, out: Table, seed: 0, traces: 100, length: 10, letters: 4, repertoire: Second, keep: true, word: None }",
     ),
     (
         "kb",
-        "Settings { command: Kb, model: Name { text: \"\" }, log: Name { text: \"-\" }, format: Strings, columns: Columns { case: Name { text: \"case\" }, activity: Name { text: \"activity\" }, order: None, order_as: Text }, thresholds: Thresholds { support: Threshold { millionths: 950000 }, confidence: Threshold { millionths: 250000 }, interest: Threshold { millionths: 125000 } }, states: 16384, stage: Model, out: Json, seed: 0, traces: 100, length: 10, letters: 4 }",
+        "Settings { command: Kb, model: Name { text: \"\" }, log: Name { text: \"-\" }, format: Strings, columns: Columns { case: Name { text: \"case\" }, activity: Name { text: \"activity\" }, order: None, order_as: Text }, thresholds: Thresholds { support: Threshold { millionths: 950000 }, confidence: Threshold { millionths: 250000 }, interest: Threshold { millionths: 125000 } }, states: 16384, stage: Model, out: Json, seed: 0, traces: 100, length: 10, letters: 4, repertoire: First, keep: false, word: None }",
     ),
     (
         "check --case-column c - b",
-        "Settings { command: Check, model: Name { text: \"-\" }, log: Name { text: \"b\" }, format: Strings, columns: Columns { case: Name { text: \"c\" }, activity: Name { text: \"activity\" }, order: None, order_as: Text }, thresholds: Thresholds { support: Threshold { millionths: 950000 }, confidence: Threshold { millionths: 250000 }, interest: Threshold { millionths: 125000 } }, states: 16384, stage: Model, out: Json, seed: 0, traces: 100, length: 10, letters: 4 }",
+        "Settings { command: Check, model: Name { text: \"-\" }, log: Name { text: \"b\" }, format: Strings, columns: Columns { case: Name { text: \"c\" }, activity: Name { text: \"activity\" }, order: None, order_as: Text }, thresholds: Thresholds { support: Threshold { millionths: 950000 }, confidence: Threshold { millionths: 250000 }, interest: Threshold { millionths: 125000 } }, states: 16384, stage: Model, out: Json, seed: 0, traces: 100, length: 10, letters: 4, repertoire: First, keep: false, word: None }",
     ),
     (
         "check m",
-        "Settings { command: Check, model: Name { text: \"m\" }, log: Name { text: \"-\" }, format: Strings, columns: Columns { case: Name { text: \"case\" }, activity: Name { text: \"activity\" }, order: None, order_as: Text }, thresholds: Thresholds { support: Threshold { millionths: 950000 }, confidence: Threshold { millionths: 250000 }, interest: Threshold { millionths: 125000 } }, states: 16384, stage: Model, out: Json, seed: 0, traces: 100, length: 10, letters: 4 }",
+        "Settings { command: Check, model: Name { text: \"m\" }, log: Name { text: \"-\" }, format: Strings, columns: Columns { case: Name { text: \"case\" }, activity: Name { text: \"activity\" }, order: None, order_as: Text }, thresholds: Thresholds { support: Threshold { millionths: 950000 }, confidence: Threshold { millionths: 250000 }, interest: Threshold { millionths: 125000 } }, states: 16384, stage: Model, out: Json, seed: 0, traces: 100, length: 10, letters: 4, repertoire: First, keep: false, word: None }",
     ),
     (
         "gen --letters 26 --traces 28679 --length 585",
-        "Settings { command: Gen, model: Name { text: \"\" }, log: Name { text: \"-\" }, format: Strings, columns: Columns { case: Name { text: \"case\" }, activity: Name { text: \"activity\" }, order: None, order_as: Text }, thresholds: Thresholds { support: Threshold { millionths: 950000 }, confidence: Threshold { millionths: 250000 }, interest: Threshold { millionths: 125000 } }, states: 16384, stage: Model, out: Json, seed: 0, traces: 28679, length: 585, letters: 26 }",
+        "Settings { command: Gen, model: Name { text: \"\" }, log: Name { text: \"-\" }, format: Strings, columns: Columns { case: Name { text: \"case\" }, activity: Name { text: \"activity\" }, order: None, order_as: Text }, thresholds: Thresholds { support: Threshold { millionths: 950000 }, confidence: Threshold { millionths: 250000 }, interest: Threshold { millionths: 125000 } }, states: 16384, stage: Model, out: Json, seed: 0, traces: 28679, length: 585, letters: 26, repertoire: First, keep: false, word: None }",
+    ),
+    (
+        "regex Response abx",
+        "Settings { command: Regex, model: Name { text: \"Response\" }, log: Name { text: \"-\" }, format: Strings, columns: Columns { case: Name { text: \"case\" }, activity: Name { text: \"activity\" }, order: None, order_as: Text }, thresholds: Thresholds { support: Threshold { millionths: 950000 }, confidence: Threshold { millionths: 250000 }, interest: Threshold { millionths: 125000 } }, states: 16384, stage: Model, out: Json, seed: 0, traces: 100, length: 10, letters: 4, repertoire: First, keep: false, word: Some(Name { text: \"abx\" }) }",
     ),
     (
         "sample --seed 4294967295",
-        "Settings { command: Sample, model: Name { text: \"\" }, log: Name { text: \"-\" }, format: Strings, columns: Columns { case: Name { text: \"case\" }, activity: Name { text: \"activity\" }, order: None, order_as: Text }, thresholds: Thresholds { support: Threshold { millionths: 950000 }, confidence: Threshold { millionths: 250000 }, interest: Threshold { millionths: 125000 } }, states: 16384, stage: Model, out: Json, seed: 4294967295, traces: 100, length: 10, letters: 4 }",
+        "Settings { command: Sample, model: Name { text: \"\" }, log: Name { text: \"-\" }, format: Strings, columns: Columns { case: Name { text: \"case\" }, activity: Name { text: \"activity\" }, order: None, order_as: Text }, thresholds: Thresholds { support: Threshold { millionths: 950000 }, confidence: Threshold { millionths: 250000 }, interest: Threshold { millionths: 125000 } }, states: 16384, stage: Model, out: Json, seed: 4294967295, traces: 100, length: 10, letters: 4, repertoire: First, keep: false, word: None }",
     ),
 ];
 

@@ -1,4 +1,4 @@
-use Rattle.std.proofs.Common.{◌∙◌, arith}
+use Rattle.std.proofs.Common.{◌∙◌, arith, false}
 use Rattle.std.proofs.lemmas.Result.{IfOk-weaker, IfErr-weaker}
 use Rattle.minerful_core.proofs.Mined.{mined_outcome, mined_refusal}
 use Rattle.minerful_core.specs.Outcome.{IsModelOutcome, summary_text}
@@ -12,11 +12,11 @@ summary_of-requires-clause-made c =
 pub returns-clause-text : goal.returns-clause-text
 returns-clause-text c =
     IfOk-weaker c.summary_of.result _ _
-    (λ text h ids is. mined_outcome (IsModelOutcome (summary_text c.args.settings.now.seed) c.args.settings.now.states) c.args.settings.now _ c.deref.result.now (c.deref.ensures.value ∙ c.in_ok-list.ensures.list ids is)
+    (λ text h ids is. mined_outcome (IsModelOutcome false (summary_text c.args.settings.now.seed) c.args.settings.now.states) c.args.settings.now _ c.deref.result.now (c.deref.ensures.value ∙ c.in_ok-list.ensures.list ids is)
     (omega (arith, c.deref.ensures.len, c.in_ok-list.ensures.few)) _ (h ids is)) c.summary_of.ensures.text
 
 pub returns-clause-refusal : goal.returns-clause-refusal
 returns-clause-refusal c =
     IfErr-weaker c.summary_of.result _ _
-    (λ r h ids is. mined_refusal (IsModelOutcome (summary_text c.args.settings.now.seed) c.args.settings.now.states) c.args.settings.now _ c.deref.result.now (c.deref.ensures.value ∙ c.in_ok-list.ensures.list ids is)
+    (λ r h ids is. mined_refusal (IsModelOutcome false (summary_text c.args.settings.now.seed) c.args.settings.now.states) c.args.settings.now _ c.deref.result.now (c.deref.ensures.value ∙ c.in_ok-list.ensures.list ids is)
     (omega (arith, c.deref.ensures.len, c.in_ok-list.ensures.few)) r (h ids is)) c.summary_of.ensures.refusal

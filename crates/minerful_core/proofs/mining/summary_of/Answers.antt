@@ -1,4 +1,4 @@
-use Rattle.std.proofs.Common.{[], refl, ap, sym, ◌∙◌, length}
+use Rattle.std.proofs.Common.{[], false, refl, ap, sym, ◌∙◌, length}
 use Rattle.std.proofs.lemmas.Result.{IfOk-weaker}
 use Rattle.event_log.specs.Logs.{in_byte_order, named}
 use Rattle.reduce_model.specs.Reduction.{IsReduction}
@@ -18,7 +18,7 @@ pub returns-in_err-reduced-clause-refusal : goal.returns-in_err-reduced-clause-r
 returns-in_err-reduced-clause-refusal c =
     handed_on c.from_residual-in_err-reduced.result c.in_err-reduced.field-0.0 _ c.from_residual-in_err-reduced.ensures.1
     (λ ids is. refused_reduction c.args.names.now.names ids c.len-tasks.result c.args.list.now c.deref.result.now is.within.numbering c.len-tasks.ensures
-    (c.deref.ensures.value ∙ c.in_ok-constraints.ensures) (summary_text c.args.seed) c.args.states _ c.in_err-reduced.ensures.err)
+    (c.deref.ensures.value ∙ c.in_ok-constraints.ensures) false (summary_text c.args.seed) c.args.states _ c.in_err-reduced.ensures.err)
 
 pub returns-clause-text : goal.returns-clause-text
 returns-clause-text c =

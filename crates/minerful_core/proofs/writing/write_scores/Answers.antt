@@ -8,6 +8,6 @@ use Rattle.minerful_core.proofs.writing.write_scores.Goals as goal
 
 pub returns-in_ok-value-in-Json-clause-text : goal.returns-in_ok-value-in-Json-clause-text
 returns-in_ok-value-in-Json-clause-text c =
-    let no_float = ap has_float c.in_ok-value-in-Json.ensures.value ∙ has_float-scores_report c.args.names.now.names c.args.list.now c.args.traces c.args.events in
+    let no_float = ap has_float c.in_ok-value-in-Json.ensures.value ∙ has_float-scores_report c.args.names.now.names c.args.settings.now.repertoire c.args.list.now c.args.traces c.args.events in
     IfOk-weaker c.text_of.result _ _ (λ text h. h ∙ ap report_text c.in_ok-value-in-Json.ensures.value
-    ∙ ap (λ out. scores_text out c.args.list.now c.args.names.now.names c.args.traces c.args.events) (sym c.in-Json.is)) (c.text_of.ensures.text no_float)
+    ∙ ap (λ out. scores_text out c.args.settings.now.repertoire c.args.list.now c.args.names.now.names c.args.traces c.args.events) (sym c.in-Json.is)) (c.text_of.ensures.text no_float)

@@ -1,5 +1,5 @@
 -- Two lists side by side, one more place at a time, and what is chosen of them.
-use Rattle.std.proofs.Common.{◌≡◌, ℕ, ◌+◌, ◌<◌, List, [], ◌∷◌, ◌++◌, Bool, true, false, cond, length, take, drop, get_or, count_by, map, refl, sym, ap, ap₂, ◌∙◌, arith, length-take, append-nil, drop-cons, true≢false, zero, suc, ◌≤◌, Option, None, Some}
+use Rattle.std.proofs.Common.{◌≡◌, ℕ, ◌+◌, ◌<◌, List, [], ◌∷◌, ◌++◌, Bool, true, false, cond, length, take, drop, get_or, count_by, map, refl, sym, ap, ap₂, ◌∙◌, arith, length-take, append-nil, drop-cons, true≢false, suc, Option, None, Some}
 use Rattle.std.specs.Prelude.{All}
 use Rattle.template_core.proofs.Traces.{count_by-cons}
 use Rattle.template_core.specs.Events.{one_if}
@@ -9,7 +9,7 @@ use Rattle.std.specs.List.{filter, zip}
 use Rattle.reduce_model.specs.declared.decision.Decision.{Decision}
 use Rattle.scoring.specs.declared.scored.Scored.{Scored}
 use Rattle.reduce_model.specs.Deciding.{is_kept}
-use Rattle.reduce_model.specs.declared.decision.Decision.TheVariants.{Kept, Conflict, Weaker, FirstPass, SecondPass, Beyond, Untested}
+use Rattle.reduce_model.specs.declared.decision.Decision.TheVariants.{Kept, Untested}
 use Rattle.model_json.specs.Report.{is_tested, staying, with_witnesses}
 
 zip-append : {X Y : Type 0} (xs us : List X) (ys vs : List Y) → length xs ≡ length ys → zip (xs ++ us) (ys ++ vs) ≡ zip xs ys ++ zip us vs

@@ -5,7 +5,7 @@ use Rattle.std.specs.Str.{bytes_eq}
 use Rattle.std.specs.Cmp.Lexicographic.{bytes_decides}
 use Rattle.std.proofs.lemmas.Bool.{eq-eqb}
 use Rattle.std.proofs.lemmas.List.{length-map}
-use Rattle.std.proofs.lemmas.List.Elements.{All-nil, All-cons, All-head, All-map, All-tail}
+use Rattle.std.proofs.lemmas.List.Elements.{All-head, All-map, All-tail}
 use Rattle.std.proofs.lemmas.Option.{unwrap_or-slice_get}
 use Rattle.serde_json.specs.Data.{Data, string, array, depth}
 use Rattle.serde_json.specs.Find.{as_str, get}
@@ -27,7 +27,7 @@ use Rattle.template_set.specs.Names.{name_of}
 use Rattle.scoring.specs.declared.scored.Scored.{Scored}
 use Rattle.reduce_model.specs.Sifting.{Sifting}
 use Rattle.reduce_model.specs.declared.decision.Decision.{Decision}
-use Rattle.model_json.specs.Model.{Item, Known, Shape, IsListed, activities, activities_in, each, is_twice, item_of, item_read, items_read, list_in, listed, model_of, model_of_bytes, only, put_in, repertoire_of, shape_of, tasks_in, texts_in, values_of, within}
+use Rattle.model_json.specs.Model.{Item, Known, IsListed, activities, activities_in, each, is_twice, item_of, item_read, items_read, list_in, listed, model_of, model_of_bytes, only, put_in, repertoire_of, shape_of, texts_in, values_of, within}
 use Rattle.model_json.specs.Report.{IsLineOf, activities_of, consistent_report, model_report, is_tested, name_at, parameter_value, listed_value, scored_value, scores_report, staying, with_witnesses}
 use Rattle.model_json.proofs.Causes.{goes_on}
 use Rattle.model_json.proofs.Chosen.{All-unmap, stay-same}

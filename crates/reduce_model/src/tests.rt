@@ -172,7 +172,10 @@ fn is_reduced_within_to(
     admitted(&list, 2, states)?;
     let sifted = sift_within(alloc, &list, 2, states)?;
     let reduced = reduce_within(alloc, &list, 2, states)?;
-    Ok(sifted.example() == reduced.example() && is_as_told(rows, &reduced, witnesses, example))
+    Ok(
+        sifted.example().events() == reduced.example().events()
+            && is_as_told(rows, &reduced, witnesses, example),
+    )
 }
 
 fn is_as_told(

@@ -86,15 +86,19 @@ three ds ws t = record {
   example = t;
 }
 
-pub reduction_unique : (n s : ℕ) (list : List Constraint) (a b : Reduction) → IsReduction n s list a → IsReduction n s list b → a ≡ b
+pub three-same : (a b : Reduction) → a.decisions ≡ b.decisions → a.witnesses ≡ b.witnesses → a.example ≡ b.example → a ≡ b
 unfolding three
+three-same a b decisions witnesses example =
+    ap (λ (ds : List Decision). three ds a.witnesses a.example) decisions ∙ (ap (λ (ws : List (List ℕ)). three b.decisions ws a.example) witnesses ∙ ap (three b.decisions b.witnesses) example)
+
+pub reduction_unique : (n s : ℕ) (list : List Constraint) (a b : Reduction) → IsReduction n s list a → IsReduction n s list b → a ≡ b
 reduction_unique n s list a b h g =
     let decisions = reduced_unique n list a.decisions b.decisions h.reduced g.reduced in
     let ws : AreWitnesses n [] (those is_kept list b.decisions) a.witnesses = subst (λ (ds : List Decision). AreWitnesses n [] (those is_kept list ds) a.witnesses) decisions h.witnesses in
     let witnesses = witnesses_unique n [] (those is_kept list b.decisions) a.witnesses b.witnesses ws g.witnesses in
     let t : IsLeastMember n (KeepsAll (those is_kept list b.decisions)) a.example = subst (λ (ds : List Decision). IsLeastMember n (KeepsAll (those is_kept list ds)) a.example) decisions h.example in
     let example = least_unique n (KeepsAll (those is_kept list b.decisions)) a.example b.example t g.example in
-    ap (λ (ds : List Decision). three ds a.witnesses a.example) decisions ∙ (ap (λ (ws : List (List ℕ)). three b.decisions ws a.example) witnesses ∙ ap (three b.decisions b.witnesses) example)
+    three-same a b decisions witnesses example
 
 pub not_both : (n s : ℕ) (list : List Constraint) (a : Reduction) (phase built : ℕ) → IsReduction n s list a → RefusesReduction n s list (States phase built) → ⊥
 not_both n s list a phase built h refuses = first-not_narrow n s (built_lists list a.decisions) phase built (refuses a.decisions h.reduced) h.narrow

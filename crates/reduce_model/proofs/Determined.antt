@@ -112,7 +112,7 @@ agree q p ds es none many same place = elim (true_or_false (get_or (map q ds) pl
 mark-of : (p : Decision → Bool) (ds : List Decision) (place : ℕ) → place < length ds → get_or (map p ds) place false ≡ p (get_or ds place Kept)
 mark-of p ds place lt = get_or-map p ds place Kept false lt
 
-same-mark : (p : Decision → Bool) (ds es : List Decision) (place : ℕ) → place < length ds → place < length es → map p ds ≡ map p es → p (get_or ds place Kept) ≡ p (get_or es place Kept)
+pub same-mark : (p : Decision → Bool) (ds es : List Decision) (place : ℕ) → place < length ds → place < length es → map p ds ≡ map p es → p (get_or ds place Kept) ≡ p (get_or es place Kept)
 same-mark p ds es place ld le same = sym (mark-of p ds place ld) ∙ (ap (λ (l : List Bool). get_or l place false) same ∙ mark-of p es place le)
 
 whole : (v u : List Bool) (bound : ℕ) → length v ≤ bound → length u ≤ bound → take bound v ≡ take bound u → v ≡ u

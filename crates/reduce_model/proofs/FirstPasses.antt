@@ -93,7 +93,7 @@ passing-none n s list old left size many some pruned every zero_ = record {
 }
 
 -- a decision that the passes haven't marked and that doesn't stand is not among the strongest
-not-strongest : (d : Decision) → d ≡ before_first_pass d → is_kept d ≡ false → (is_strongest d ≡ false) × (is_left d ≡ false)
+pub not-strongest : (d : Decision) → d ≡ before_first_pass d → is_kept d ≡ false → (is_strongest d ≡ false) × (is_left d ≡ false)
 not-strongest Kept e k = (cc, cc)
 not-strongest Conflict e k = (refl, refl)
 not-strongest (Weaker by) e k = (refl, refl)
@@ -120,8 +120,8 @@ is-kept SecondPass u e = cc
 is-kept Beyond u e = cc
 is-kept Untested u e = absurd (u refl)
 
-fresh-tested : (d : Decision) → d ≡ before_first_pass d → d ≡ Untested → ⊥
-fresh-tested d e u = let k : Untested ≡ Kept = rw u at e in cc
+pub fresh-tested : (f : Decision → Decision) → f Untested ≡ Kept → (d : Decision) → d ≡ f d → d ≡ Untested → ⊥
+fresh-tested f k d e u = let no_ : Untested ≡ Kept = sym u ∙ (e ∙ (ap f u ∙ k)) in cc
 
 -- the marked ones before the next place
 pub before-lacks : (list : List Constraint) (marks : List Bool) (at : ℕ) → at < length marks → at < length list → get_or marks at false ≡ false
@@ -170,7 +170,7 @@ module _ (n s : ℕ) (list : List Constraint) (old new : List Decision) (at : �
   -- one that is left joins
   module _ (kept : is_kept (get_or new at Kept) ≡ true) where
     is : get_or new at Kept ≡ Kept
-    is = is-kept (get_or new at Kept) (fresh-tested (get_or new at Kept) (h.fresh at (omega arith) in_list)) kept
+    is = is-kept (get_or new at Kept) (fresh-tested before_first_pass refl (get_or new at Kept) (h.fresh at (omega arith) in_list)) kept
 
     has_left : get_or (map is_left new) at false ≡ true
     has_left = get_or-map is_left new at Kept false within ∙ ap is_left is

@@ -95,7 +95,7 @@ module _ (n s : ℕ) (before rest full : List Constraint) (a : Automaton) (is : 
       let p = e.same w tw in
       let q = keeps-append before list w in (λ both. q.1 (p.0 both.0, both.1), λ all. let parts = q.0 all in (p.1 parts.0, parts.1))
 
-  breaks-same : (c : Constraint) (w : List ℕ) → IsTrace n w → AcceptsBreaks a rest c w ↔ Breaks full c w
+  pub breaks-same : (c : Constraint) (w : List ℕ) → IsTrace n w → AcceptsBreaks a rest c w ↔ Breaks full c w
   breaks-same c w tw = let p = all-same rest w tw in rw is (λ b. (p.0 b.0, b.1), λ b. (p.1 b.0, b.1))
 
   some-narrow : (most : ℕ) → ((size : ℕ) → 0 < size → size ≤ most → IsWide a.symbols (AcceptsAll a (take size rest)) s → ⊥) → (size : ℕ) → size ≤ most → IsWide n (KeepsAll (before ++ take size rest)) s → ⊥

@@ -15,3 +15,11 @@ pub mod Meaning
 pub mod Reduces
 pub mod Consequences
 pub mod Existing
+pub mod SiftsWithin
+pub mod FirstPassesWithin
+pub mod SecondPassesWithin
+pub mod WitnessesWithin
+pub mod MeaningWithin
+pub mod ReducesWithin
+pub mod DeterminedWithin
+pub mod AgreeWithin

@@ -19,7 +19,7 @@ use Rattle.reduce_model.proofs.Writes.{marked-split}
 use Rattle.reduce_model.specs.Deciding.{is_consistent, is_kept, is_left, is_strongest, marked, those}
 use Rattle.reduce_model.specs.Keeping.{KeepsAll, KeepsOne}
 use Rattle.reduce_model.specs.Passes.{IsIrredundant}
-use Rattle.reduce_model.specs.Reduction.{Implies, IsAbove, IsReduced}
+use Rattle.reduce_model.specs.Reduction.{Implies, IsAbove, IsReduced, TellsWeaker}
 use Rattle.reduce_model.specs.declared.decision.Decision.{Decision}
 use Rattle.reduce_model.specs.declared.decision.Decision.TheVariants.{Kept, Conflict, Weaker, FirstPass, SecondPass, Beyond, Untested}
 
@@ -58,7 +58,7 @@ keeps-after marks list w place all =
 
 -- ---- the marks of decisions
 
-mark : (test : Decision → Bool) (ds : List Decision) (place : ℕ) → place < length ds → get_or (map test ds) place false ≡ test (get_or ds place Kept)
+pub mark : (test : Decision → Bool) (ds : List Decision) (place : ℕ) → place < length ds → get_or (map test ds) place false ≡ test (get_or ds place Kept)
 mark test ds place lt = get_or-map test ds place Kept false lt
 
 kept-or-second : (d : Decision) → is_left d ≡ true → (is_kept d ≡ true) ⊎ (d ≡ SecondPass)
@@ -101,9 +101,56 @@ stronger-trans : {c d e : Constraint} → IsStronger c d → IsStronger d e → 
 stronger-trans (directly l) q = through l q
 stronger-trans (through l r) q = through l (stronger-trans r q)
 
-module _ (n : ℕ) (list : List Constraint) (ds : List Decision) (h : IsReduced n list ds) (w : List ℕ) (tw : IsTrace n w) where
+module _ (n : ℕ) (list : List Constraint) (ds : List Decision) (many : length ds ≡ length list) (told : TellsWeaker list ds) (w : List ℕ) where
   in_ds : (place : ℕ) → place < length list → place < length ds
-  in_ds place lt = let many = h.as_many in omega (arith, many, lt)
+  in_ds place lt = omega (arith, many, lt)
+
+  -- and those that they are above: the first that is above another stands at a later place where it is itself below one
+  module _ (made : All (IsWellMadeFor n) list) (strongest : (place : ℕ) → place < length list → is_strongest (get_or ds place Kept) ≡ true → KeepsOne (get_or list place anything) w) where
+    weaker-kept : (gap : ℕ) (place by : ℕ) → place < length list → get_or ds place Kept ≡ Weaker by → length list ≤ by + gap → KeepsOne (get_or list place anything) w
+    weaker-kept zero place by lt is le =
+        let first = (told place (get_or list place anything) (get_or ds place Kept) by (at_place list ds place many lt) (ap is_consistent is)).0 is in
+        let within = slice_get_within list by first.above.constraint first.above.at in
+        absurd (omega (arith, within, le))
+    weaker-kept (suc gap) place by lt is le =
+        let first = (told place (get_or list place anything) (get_or ds place Kept) by (at_place list ds place many lt) (ap is_consistent is)).0 is in
+        let within : by < length list = slice_get_within list by first.above.constraint first.above.at in
+        let here = above-here list ds (get_or list place anything) by many first.above in
+        let made_by : IsWellMade (get_or list by anything).kind (get_or list by anything).first (get_or list by anything).second = (All-get_or (IsWellMadeFor n) list by anything within made).made in
+        let one : KeepsOne (get_or list by anything) w = elim (strongest-or-weaker (get_or ds by Kept) here.0) [
+          | inl top ↦ strongest by within top
+          | inr below ↦
+              let next = (told by (get_or list by anything) (get_or ds by Kept) below.0 (at_place list ds by many within) here.0).0 below.1 in
+              let next_here = above-here list ds (get_or list by anything) below.0 many next.above in
+              let next_within : below.0 < length list = slice_get_within list below.0 next.above.constraint next.above.at in
+              let above_too : IsAbove list (map is_consistent ds) (get_or list place anything) below.0 =
+              here-above list ds (get_or list place anything) below.0 many next_within next_here.0 (stronger-trans next_here.1 here.1) in
+              elim (cases_lt below.0 by) [
+                | inl before ↦ absurd (first.first below.0 before above_too)
+                | inr from ↦ elim (cases_eq below.0 by) [
+                  | inl e ↦ absurd (strict (get_or list by anything) (rw e at next_here.1))
+                  | inr ne ↦ weaker-kept gap by below.0 within below.1 (omega (arith, le, from, ne))
+                ]
+              ]
+        ] in
+        keeps_below (get_or list by anything) (get_or list place anything) here.1 made_by w one
+
+  -- the strongest and the conflict-free model
+  pub strongest-consistent : All (IsWellMadeFor n) list → ((place : ℕ) → place < length list → is_strongest (get_or ds place Kept) ≡ true → KeepsOne (get_or list place anything) w) → KeepsAll (those is_consistent list ds) w
+  strongest-consistent made strongest =
+      keeps-each (map is_consistent ds) list w (λ place lt has. elim (strongest-or-weaker (get_or ds place Kept) (sym (mark is_consistent ds place (in_ds place lt)) ∙ has)) [
+        | inl top ↦ strongest place lt top
+        | inr below ↦ weaker-kept made strongest (length list) place below.0 lt below.1 (omega arith)
+      ])
+
+  pub consistent-model : KeepsAll (those is_consistent list ds) w → KeepsAll (those is_kept list ds) w
+  consistent-model all =
+      keeps-each (map is_kept ds) list w (λ place lt has.
+      keeps-at (map is_consistent ds) list w place all lt (mark is_consistent ds place (in_ds place lt) ∙ kept-consistent (get_or ds place Kept) (sym (mark is_kept ds place (in_ds place lt)) ∙ has)))
+
+module _ (n : ℕ) (list : List Constraint) (ds : List Decision) (h : IsReduced n list ds) (w : List ℕ) (tw : IsTrace n w) where
+  in_list : (place : ℕ) → place < length list → place < length ds
+  in_list place lt = let many = h.as_many in omega (arith, many, lt)
 
   in_marks : (test : Decision → Bool) (place : ℕ) → place < length list → place < length (map test ds)
   in_marks test place lt = let many = h.as_many in let long = length-map ds test in omega (arith, many, long, lt)
@@ -116,9 +163,9 @@ module _ (n : ℕ) (list : List Constraint) (ds : List Decision) (h : IsReduced 
       let ih = left-below all place (omega arith) in
       elim (true_or_false (get_or (map is_left ds) place false)) [
         | inl has ↦
-            let left : is_left (get_or ds place Kept) ≡ true = sym (mark is_left ds place (in_ds place lt)) ∙ has in
+            let left : is_left (get_or ds place Kept) ≡ true = sym (mark is_left ds place (in_list place lt)) ∙ has in
             let one : KeepsOne (get_or list place anything) w = elim (kept-or-second (get_or ds place Kept) left) [
-              | inl kept ↦ keeps-at (map is_kept ds) list w place all lt (mark is_kept ds place (in_ds place lt) ∙ kept)
+              | inl kept ↦ keeps-at (map is_kept ds) list w place all lt (mark is_kept ds place (in_list place lt) ∙ kept)
               | inr second ↦
                   let told = h.second_pass place (get_or list place anything) (get_or ds place Kept) (at_place list ds place h.as_many lt) left in
                   told.0 second w tw ((keeps-append (marked (take place (map is_left ds)) (take place list)) (marked (drop (suc place) (map is_kept ds)) (drop (suc place) list)) w).1
@@ -140,59 +187,18 @@ module _ (n : ℕ) (list : List Constraint) (ds : List Decision) (h : IsReduced 
   -- what is left keeps the strongest
   strongest-kept : KeepsAll (those is_left list ds) w → (place : ℕ) → place < length list → is_strongest (get_or ds place Kept) ≡ true → KeepsOne (get_or list place anything) w
   strongest-kept all place lt strongest = elim (left-or-first (get_or ds place Kept) strongest) [
-    | inl left ↦ keeps-at (map is_left ds) list w place all lt (mark is_left ds place (in_ds place lt) ∙ left)
+    | inl left ↦ keeps-at (map is_left ds) list w place all lt (mark is_left ds place (in_list place lt) ∙ left)
     | inr first ↦
         let told = h.first_pass place (get_or list place anything) (get_or ds place Kept) (at_place list ds place h.as_many lt) strongest in
         told.0 first w tw (keeps-before (map is_left ds) list w place all)
   ]
 
-  -- and those that they are above: the first that is above another stands at a later place where it is itself below one
-  module _ (made : All (IsWellMadeFor n) list) (strongest : (place : ℕ) → place < length list → is_strongest (get_or ds place Kept) ≡ true → KeepsOne (get_or list place anything) w) where
-    weaker-kept : (gap : ℕ) (place by : ℕ) → place < length list → get_or ds place Kept ≡ Weaker by → length list ≤ by + gap → KeepsOne (get_or list place anything) w
-    weaker-kept zero place by lt is le =
-        let first = (h.weaker place (get_or list place anything) (get_or ds place Kept) by (at_place list ds place h.as_many lt) (ap is_consistent is)).0 is in
-        let within = slice_get_within list by first.above.constraint first.above.at in
-        absurd (omega (arith, within, le))
-    weaker-kept (suc gap) place by lt is le =
-        let first = (h.weaker place (get_or list place anything) (get_or ds place Kept) by (at_place list ds place h.as_many lt) (ap is_consistent is)).0 is in
-        let within : by < length list = slice_get_within list by first.above.constraint first.above.at in
-        let here = above-here list ds (get_or list place anything) by h.as_many first.above in
-        let made_by : IsWellMade (get_or list by anything).kind (get_or list by anything).first (get_or list by anything).second = (All-get_or (IsWellMadeFor n) list by anything within made).made in
-        let one : KeepsOne (get_or list by anything) w = elim (strongest-or-weaker (get_or ds by Kept) here.0) [
-          | inl top ↦ strongest by within top
-          | inr below ↦
-              let next = (h.weaker by (get_or list by anything) (get_or ds by Kept) below.0 (at_place list ds by h.as_many within) here.0).0 below.1 in
-              let next_here = above-here list ds (get_or list by anything) below.0 h.as_many next.above in
-              let next_within : below.0 < length list = slice_get_within list below.0 next.above.constraint next.above.at in
-              let above_too : IsAbove list (map is_consistent ds) (get_or list place anything) below.0 =
-              here-above list ds (get_or list place anything) below.0 h.as_many next_within next_here.0 (stronger-trans next_here.1 here.1) in
-              elim (cases_lt below.0 by) [
-                | inl before ↦ absurd (first.first below.0 before above_too)
-                | inr from ↦ elim (cases_eq below.0 by) [
-                  | inl e ↦ absurd (strict (get_or list by anything) (rw e at next_here.1))
-                  | inr ne ↦ weaker-kept gap by below.0 within below.1 (omega (arith, le, from, ne))
-                ]
-              ]
-        ] in
-        keeps_below (get_or list by anything) (get_or list place anything) here.1 made_by w one
-
-  -- the model and the conflict-free model
-  pub model-consistent : All (IsWellMadeFor n) list → KeepsAll (those is_kept list ds) w → KeepsAll (those is_consistent list ds) w
-  model-consistent made all =
-      let strongest = strongest-kept (left-kept all) in
-      keeps-each (map is_consistent ds) list w (λ place lt has. elim (strongest-or-weaker (get_or ds place Kept) (sym (mark is_consistent ds place (in_ds place lt)) ∙ has)) [
-        | inl top ↦ strongest place lt top
-        | inr below ↦ weaker-kept made strongest (length list) place below.0 lt below.1 (omega arith)
-      ])
-
-  pub consistent-model : KeepsAll (those is_consistent list ds) w → KeepsAll (those is_kept list ds) w
-  consistent-model all =
-      keeps-each (map is_kept ds) list w (λ place lt has.
-      keeps-at (map is_consistent ds) list w place all lt (mark is_consistent ds place (in_ds place lt) ∙ kept-consistent (get_or ds place Kept) (sym (mark is_kept ds place (in_ds place lt)) ∙ has)))
-
 -- the reduced model keeps exactly the traces of the conflict-free model
 pub same-traces : (n : ℕ) (list : List Constraint) (ds : List Decision) → All (IsWellMadeFor n) list → IsReduced n list ds → (w : List ℕ) → IsTrace n w → KeepsAll (those is_kept list ds) w ↔ KeepsAll (those is_consistent list ds) w
-same-traces n list ds made h w tw = (model-consistent n list ds h w tw made, consistent-model n list ds h w tw)
+same-traces n list ds made h w tw = (
+  λ all. strongest-consistent n list ds h.as_many h.weaker w made (strongest-kept n list ds h w tw (left-kept n list ds h w tw all)),
+  consistent-model n list ds h.as_many h.weaker w,
+)
 
 -- ---- none of the model is implied by the others
 

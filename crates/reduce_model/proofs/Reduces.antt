@@ -99,7 +99,7 @@ sifted-forward n kept (c ∷ list) (d ∷ ds) h place lt = absurd h
 
 -- ---- narrow kept lists
 
-sift-narrow : (n s : ℕ) (list : List Constraint) (ds0 : List Decision) → IsSifted n [] list ds0 → IsNarrow n s list → IsNarrowList n s (kept_of list ds0)
+pub sift-narrow : (n s : ℕ) (list : List Constraint) (ds0 : List Decision) → IsSifted n [] list ds0 → IsNarrow n s list → IsNarrowList n s (kept_of list ds0)
 sift-narrow n s list ds0 sifted narrow size wide =
     let go : (k : ℕ) → k ≤ length (kept_of list ds0) → IsWide n (KeepsAll (take k (kept_of list ds0))) s → ⊥ = λ k le is.
     let p = kept-prefix n [] list ds0 sifted k le in
@@ -242,7 +242,7 @@ refused-1 n s list refusal some h = absurd h
 
 -- ---- the marks that a later step leaves as they are
 
-consistent-pruning : (d : Decision) → is_consistent (as_sifted d) ≡ is_consistent d
+pub consistent-pruning : (d : Decision) → is_consistent (as_sifted d) ≡ is_consistent d
 consistent-pruning Kept = refl
 consistent-pruning Conflict = refl
 consistent-pruning (Weaker by) = refl
@@ -278,7 +278,7 @@ strongest-second SecondPass = refl
 strongest-second Beyond = refl
 strongest-second Untested = refl
 
-left-second : (d : Decision) → is_left (before_second_pass d) ≡ is_left d
+pub left-second : (d : Decision) → is_left (before_second_pass d) ≡ is_left d
 left-second Kept = refl
 left-second Conflict = refl
 left-second (Weaker by) = refl
@@ -287,7 +287,7 @@ left-second SecondPass = refl
 left-second Beyond = refl
 left-second Untested = refl
 
-first-second : (d : Decision) → before_first_pass (before_second_pass d) ≡ before_first_pass d
+pub first-second : (d : Decision) → before_first_pass (before_second_pass d) ≡ before_first_pass d
 first-second Kept = refl
 first-second Conflict = refl
 first-second (Weaker by) = refl
@@ -311,7 +311,7 @@ conflicts-move n list ds es md me nd ne same told =
     forward_conflicts n list ds md nd (subst (λ (v : List Bool). IsForward (Conflicts n) Always list v (length list)) (sym same) (conflicts_forward n list es me ne told))
 
 -- the decisions without the marks of the passes tell the same weaker ones
-weaker-move : (list : List Constraint) (ds es : List Decision) → length ds ≡ length list → length es ≡ length list → map before_first_pass ds ≡ es → TellsWeaker list es → TellsWeaker list ds
+pub weaker-move : (list : List Constraint) (ds es : List Decision) → length ds ≡ length list → length es ≡ length list → map before_first_pass ds ≡ es → TellsWeaker list es → TellsWeaker list ds
 weaker-move list ds es md me same told = weaker-tells list ds md (λ place lt by consistent.
     let ld : place < length ds = omega arith in
     let e : get_or es place Kept ≡ before_first_pass (get_or ds place Kept) = ap (λ (l : List Decision). get_or l place Kept) (sym same) ∙ get_or-map before_first_pass ds place Kept Kept ld in

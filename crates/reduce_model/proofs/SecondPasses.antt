@@ -7,7 +7,7 @@ use Rattle.std.proofs.lemmas.List.Elements.{All-append, All-cons, All-drop, All-
 use Rattle.dfa_core.specs.Languages.{HasNoMember, IsLeastMember}
 use Rattle.template_core.specs.declared.constraint.Constraint.{Constraint}
 use Rattle.reduce_model.proofs.Determined.{Has, ImpliesWith, backward_second_pass, kept_same_from}
-use Rattle.reduce_model.proofs.FirstPasses.{before-has, before-lacks, is-kept, left_before, length-marked, none-implies}
+use Rattle.reduce_model.proofs.FirstPasses.{before-has, before-lacks, fresh-tested, is-kept, left_before, length-marked, none-implies}
 use Rattle.reduce_model.proofs.Grows.{sought}
 use Rattle.reduce_model.proofs.Lists.{all-append, phase-first, phase-narrow, tests-split}
 use Rattle.reduce_model.proofs.Marks.{IsBackward, anything}
@@ -79,12 +79,16 @@ all-from P list ds from place h =
 -- ---- the pass
 
 -- the candidates from a place on are gone through, those before it not yet
-pub record IsPassingBack (n s : ℕ) (list : List Constraint) (old new : List Decision) (at : ℕ) : Type 0 where
+pub record IsGoingBack (list : List Constraint) (old new : List Decision) (at : ℕ) : Type 0 where
   pub as_many : length new ≡ length list
   pub at_most : at ≤ length list
   pub same : map before_second_pass new ≡ old
-  pub backward : IsBackward (ImpliesWith n list (map is_left new)) (Has is_left new) list (map is_kept new) at
   pub fresh : (place : ℕ) → place < at → get_or new place Kept ≡ before_second_pass (get_or new place Kept)
+
+-- and no test was wide
+pub record IsPassingBack (n s : ℕ) (list : List Constraint) (old new : List Decision) (at : ℕ) : Type 0 where
+  pub going : IsGoingBack list old new at
+  pub backward : IsBackward (ImpliesWith n list (map is_left new)) (Has is_left new) list (map is_kept new) at
   pub tested : (place : ℕ) → get_or new place Kept ≡ Untested → ⊥
   pub narrow : AllByRecursion (IsNarrowList n s) (tests (left_before at list new) (drop at list) (drop at new))
 
@@ -99,13 +103,18 @@ fixed-tested f k [] e place u = cc
 fixed-tested f k (d ∷ ds) e zero u = let here : f d ≡ d = cc in let no_ : Kept ≡ Untested = sym k ∙ (ap f (sym u) ∙ (here ∙ u)) in cc
 fixed-tested f k (d ∷ ds) e (suc place) u = let rest : map f ds ≡ ds = cc in fixed-tested f k ds rest place u
 
-pub back-none : (n s : ℕ) (list : List Constraint) (old : List Decision) (at : ℕ) → at ≡ length list → length old ≡ length list → map before_second_pass old ≡ old → IsPassingBack n s list old old at
-back-none n s list old at e many passed = record {
+pub going-none : (list : List Constraint) (old : List Decision) (at : ℕ) → at ≡ length list → length old ≡ length list → map before_second_pass old ≡ old → IsGoingBack list old old at
+going-none list old at e many passed = record {
   as_many = many;
   at_most = omega arith;
   same = passed;
-  backward = λ place le lt q. absurd (omega arith);
   fresh = λ place lt. fixed-at before_second_pass old place (omega arith) passed;
+}
+
+pub back-none : (n s : ℕ) (list : List Constraint) (old : List Decision) (at : ℕ) → at ≡ length list → length old ≡ length list → map before_second_pass old ≡ old → IsPassingBack n s list old old at
+back-none n s list old at e many passed = record {
+  going = going-none list old at e many passed;
+  backward = λ place le lt q. absurd (omega arith);
   tested = fixed-tested before_second_pass refl old passed;
   narrow = rw (drop_all at list (omega arith)) tt;
 }
@@ -119,7 +128,7 @@ left-passes SecondPass = refl
 left-passes Beyond = refl
 left-passes Untested = refl
 
-kept-is-left : (d : Decision) → d ≡ before_second_pass d → is_kept d ≡ is_left d
+pub kept-is-left : (d : Decision) → d ≡ before_second_pass d → is_kept d ≡ is_left d
 kept-is-left Kept e = refl
 kept-is-left Conflict e = refl
 kept-is-left (Weaker by) e = refl
@@ -133,38 +142,58 @@ whole-tests : (all_ split_ from_ from_before joined earlier : List (List Constra
 whole-tests all_ split_ from_ from_before joined earlier one a b c d =
     sym a ∙ (b ∙ (ap (λ (l : List (List Constraint)). l ++ earlier) (c ∙ d) ∙ append_assoc joined (one ∷ []) earlier))
 
-module _ (n s : ℕ) (list : List Constraint) (old new : List Decision) (p : ℕ) (in_list : p < length list) (h : IsPassingBack n s list old new (suc p)) where
-  in_new : p < length new
-  in_new = let many = h.as_many in omega (arith, many, in_list)
+module _ (n s : ℕ) (list : List Constraint) (old new : List Decision) (p : ℕ) (in_list : p < length list) (g : IsGoingBack list old new (suc p)) where
+  pub in_new : p < length new
+  in_new = let many = g.as_many in omega (arith, many, in_list)
 
   mark-of : (test : Decision → Bool) → get_or (map test new) p false ≡ test (get_or new p Kept)
   mark-of test = get_or-map test new p Kept false in_new
 
   in_marks : (test : Decision → Bool) → p < length (map test new)
-  in_marks test = let many = h.as_many in let long = length-map new test in omega (arith, many, long, in_list)
+  in_marks test = let many = g.as_many in let long = length-map new test in omega (arith, many, long, in_list)
+
+  pub going-on : IsGoingBack list old new p
+  going-on = record {
+    as_many = g.as_many;
+    at_most = omega arith;
+    same = g.same;
+    fresh = λ place lt. g.fresh place (omega arith);
+  }
+
+  -- a decision that the pass writes at the place
+  pub going-write : (d : Decision) → before_second_pass d ≡ get_or old p Kept → IsGoingBack list old (set new p d) p
+  going-write d e = record {
+    as_many = length-set new p d ∙ g.as_many;
+    at_most = omega arith;
+    same = map-set_same before_second_pass new p d (e ∙ (ap (λ (l : List Decision). get_or l p Kept) (sym g.same) ∙ get_or-map before_second_pass new p Kept Kept in_new)) ∙ g.same;
+    fresh = λ place lt.
+        let ne : place ≢ p = omega arith in
+        let same_ : get_or (set new p d) place Kept ≡ get_or new place Kept = get_or-set_other new p place d Kept ne in
+        rw same_ (g.fresh place (omega arith));
+  }
+
+  pub past-list : is_left (get_or new p Kept) ≡ false → left_before (suc p) list new ≡ left_before p list new
+  past-list lacks_left = rw (← add-one) (before-lacks list (map is_left new) p (in_marks is_left) in_list (mark-of is_left ∙ lacks_left))
 
   -- one that doesn't stand is left alone
-  pub back-on : is_kept (get_or new p Kept) ≡ false → IsPassingBack n s list old new p
-  back-on lacks =
-      let lacks_left : is_left (get_or new p Kept) ≡ false = sym (kept-is-left (get_or new p Kept) (h.fresh p (omega arith))) ∙ lacks in
-      let same_list : left_before (suc p) list new ≡ left_before p list new = rw (← add-one) (before-lacks list (map is_left new) p (in_marks is_left) in_list (mark-of is_left ∙ lacks_left)) in
+  pub back-on : IsPassingBack n s list old new (suc p) → is_kept (get_or new p Kept) ≡ false → IsPassingBack n s list old new p
+  back-on h lacks =
+      let lacks_left : is_left (get_or new p Kept) ≡ false = sym (kept-is-left (get_or new p Kept) (g.fresh p (omega arith))) ∙ lacks in
+      let same_list = past-list lacks_left in
       record {
-        as_many = h.as_many;
-        at_most = omega arith;
-        same = h.same;
+        going = going-on;
         backward = λ place le lt q. elim (cases_eq place p) [
           | inl e ↦ let has : get_or (map is_left new) p false ≡ true = rw e at q in let no_ = mark-of is_left ∙ lacks_left in absurd (cc (has, no_))
           | inr ne ↦ h.backward place (omega arith) lt q
         ];
-        fresh = λ place lt. h.fresh place (omega arith);
         tested = h.tested;
         narrow = rw (tests-past (left_before p list new) list new p in_list in_new lacks_left) (rw same_list at h.narrow);
       }
 
   pub found-on : (ws : List (List ℕ)) → is_kept (get_or new p Kept) ≡ false → AreFound n s list new (suc p) ws → AreFound n s list new p ws
   found-on ws lacks found =
-      let lacks_left : is_left (get_or new p Kept) ≡ false = sym (kept-is-left (get_or new p Kept) (h.fresh p (omega arith))) ∙ lacks in
-      let same_list : left_before (suc p) list new ≡ left_before p list new = rw (← add-one) (before-lacks list (map is_left new) p (in_marks is_left) in_list (mark-of is_left ∙ lacks_left)) in
+      let lacks_left : is_left (get_or new p Kept) ≡ false = sym (kept-is-left (get_or new p Kept) (g.fresh p (omega arith))) ∙ lacks in
+      let same_list = past-list lacks_left in
       let tail : those is_kept (drop p list) (drop p new) ≡ those is_kept (drop (suc p) list) (drop (suc p) new) = rw (drop-cons list p anything in_list, drop-cons new p Kept in_new, lacks) refl in
       let tail_left : those is_left (drop p list) (drop p new) ≡ those is_left (drop (suc p) list) (drop (suc p) new) = rw (drop-cons list p anything in_list, drop-cons new p Kept in_new, lacks_left) refl in
       record {
@@ -173,13 +202,16 @@ module _ (n s : ℕ) (list : List Constraint) (old new : List Decision) (p : ℕ
       }
 
   module _ (kept : is_kept (get_or new p Kept) ≡ true) where
-    is : get_or new p Kept ≡ Kept
-    is = is-kept (get_or new p Kept) (h.tested p) kept
+    pub is : get_or new p Kept ≡ Kept
+    is = is-kept (get_or new p Kept) (fresh-tested before_second_pass refl (get_or new p Kept) (g.fresh p (omega arith))) kept
 
-    has_left : is_left (get_or new p Kept) ≡ true
+    pub was : get_or old p Kept ≡ Kept
+    was = ap (λ (l : List Decision). get_or l p Kept) (sym g.same) ∙ (get_or-map before_second_pass new p Kept Kept in_new ∙ ap before_second_pass is)
+
+    pub has_left : is_left (get_or new p Kept) ≡ true
     has_left = ap is_left is
 
-    longer : left_before (suc p) list new ≡ left_before p list new ++ get_or list p anything ∷ []
+    pub longer : left_before (suc p) list new ≡ left_before p list new ++ get_or list p anything ∷ []
     longer = rw (← add-one) (before-has list (map is_left new) p (in_marks is_left) in_list (mark-of is_left ∙ has_left))
 
     front : take p (map is_kept new) ≡ take p (map is_left new)
@@ -188,13 +220,13 @@ module _ (n s : ℕ) (list : List Constraint) (old new : List Decision) (p : ℕ
         let ll = in_marks is_left in
         take-ext (map is_kept new) (map is_left new) p (omega (arith, lk)) (omega (arith, ll)) (λ k lt.
         let inside : k < length new = let w = in_new in omega (arith, w, lt) in
-        get_or-map is_kept new k Kept false inside ∙ (kept-is-left (get_or new k Kept) (h.fresh k (omega arith)) ∙ sym (get_or-map is_left new k Kept false inside)))
+        get_or-map is_kept new k Kept false inside ∙ (kept-is-left (get_or new k Kept) (g.fresh k (omega arith)) ∙ sym (get_or-map is_left new k Kept false inside)))
 
     -- the others that still stand
     pub others : before is_kept p list new ++ after is_kept p list new ≡ left_before p list new ++ marked (drop (suc p) (map is_kept new)) (drop (suc p) list)
     others = ap (λ (l : List Bool). marked l (take p list) ++ marked (drop (suc p) (map is_kept new)) (drop (suc p) list)) front
 
-    those_after : those is_kept (drop (suc p) list) (drop (suc p) new) ≡ marked (drop (suc p) (map is_kept new)) (drop (suc p) list)
+    pub those_after : those is_kept (drop (suc p) list) (drop (suc p) new) ≡ marked (drop (suc p) (map is_kept new)) (drop (suc p) list)
     those_after = ap (λ (l : List Bool). marked l (drop (suc p) list)) (sym (drop-map is_kept (suc p) new))
 
     -- the others behind a place, and those before it that are left
@@ -208,8 +240,8 @@ module _ (n s : ℕ) (list : List Constraint) (old new : List Decision) (p : ℕ
         ap (λ (l : List Constraint). l ++ after is_kept p list new) (marked-split (take p (map is_kept new)) (take p list) q ∙ ap (λ (l : List Constraint). l ++ behind) first)
         ∙ append_assoc (marked (take q (map is_left new)) (take q list)) behind (after is_kept p list new)
 
-    left_old : map is_left old ≡ map is_left new
-    left_old = sym (view_same before_second_pass is_left new old left-passes h.same)
+    pub left_old : map is_left old ≡ map is_left new
+    left_old = sym (view_same before_second_pass is_left new old left-passes g.same)
 
     -- a test that begins with what is left before an earlier place
     module _ (prefix : Prefix) (le : prefix.place ≤ p) (prefix_of : IsPrefixOf n s list (map is_left old) prefix) where
@@ -250,15 +282,13 @@ module _ (n s : ℕ) (list : List Constraint) (old new : List Decision) (p : ℕ
         })
 
     -- one that the others don't imply stays
-    pub back-found : (t : List ℕ) → IsLeastMember n (Breaks (before is_kept p list new ++ after is_kept p list new) (get_or list p anything)) t
+    pub back-found : IsPassingBack n s list old new (suc p) → (t : List ℕ) → IsLeastMember n (Breaks (before is_kept p list new ++ after is_kept p list new) (get_or list p anything)) t
         → IsNarrowList n s (before is_kept p list new ++ after is_kept p list new) → IsPassingBack n s list old new p
-    back-found t least narrow =
+    back-found h t least narrow =
         let list_narrow : IsNarrowList n s (left_before p list new ++ those is_kept (drop (suc p) list) (drop (suc p) new)) = rw those_after (rw others at narrow) in
         let old_narrow : AllByRecursion (IsNarrowList n s) (tests (left_before p list new ++ get_or list p anything ∷ []) (drop (suc p) list) (drop (suc p) new)) = rw longer at h.narrow in
         record {
-          as_many = h.as_many;
-          at_most = omega arith;
-          same = h.same;
+          going = going-on;
           backward = λ place le lt q. elim (cases_eq place p) [
             | inl e ↦
                 let has : get_or (map is_kept new) p false ≡ true = mark-of is_kept ∙ kept in
@@ -266,7 +296,6 @@ module _ (n s : ℕ) (list : List Constraint) (old new : List Decision) (p : ℕ
                 rw e (λ lacks. absurd (cc (has, lacks)), λ implies. absurd (breaks.1 (implies t least.over breaks.0)))
             | inr ne ↦ h.backward place (omega arith) lt q
           ];
-          fresh = λ place lt. h.fresh place (omega arith);
           tested = h.tested;
           narrow = rw (tests-at (left_before p list new) list new p in_list in_new has_left)
               (all-append n s (tests (left_before p list new ++ get_or list p anything ∷ []) (drop (suc p) list) (drop (suc p) new)) ((left_before p list new ++ those is_kept (drop (suc p) list) (drop (suc p) new)) ∷ []) old_narrow (list_narrow, tt));
@@ -285,9 +314,9 @@ module _ (n s : ℕ) (list : List Constraint) (old new : List Decision) (p : ℕ
     lacks_after : get_or (map is_kept (set new p SecondPass)) p false ≡ false
     lacks_after = ap (λ (l : List Bool). get_or l p false) marks_after ∙ get_or-set_same (map is_kept new) p false false (in_marks is_kept)
 
-    pub back-missing : HasNoMember n (Breaks (before is_kept p list new ++ after is_kept p list new) (get_or list p anything))
+    pub back-missing : IsPassingBack n s list old new (suc p) → HasNoMember n (Breaks (before is_kept p list new ++ after is_kept p list new) (get_or list p anything))
         → IsNarrowList n s (before is_kept p list new ++ after is_kept p list new) → IsPassingBack n s list old (set new p SecondPass) p
-    back-missing none narrow =
+    back-missing h none narrow =
         let long = length-set new p SecondPass in
         let in_after : p < length (set new p SecondPass) = let w = in_new in omega (arith, long, w) in
         let written : get_or (set new p SecondPass) p Kept ≡ SecondPass = get_or-set_same new p SecondPass Kept in_new in
@@ -297,9 +326,7 @@ module _ (n s : ℕ) (list : List Constraint) (old new : List Decision) (p : ℕ
         let old_narrow : AllByRecursion (IsNarrowList n s) (tests (left_before p list new ++ get_or list p anything ∷ []) (drop (suc p) list) (drop (suc p) new)) = rw longer at h.narrow in
         let all_narrow = all-append n s (tests (left_before p list new ++ get_or list p anything ∷ []) (drop (suc p) list) (drop (suc p) new)) ((left_before p list new ++ those is_kept (drop (suc p) list) (drop (suc p) new)) ∷ []) old_narrow (list_narrow, tt) in
         record {
-          as_many = long ∙ h.as_many;
-          at_most = omega arith;
-          same = map-set_same before_second_pass new p SecondPass (sym (ap before_second_pass is)) ∙ h.same;
+          going = going-write SecondPass (sym was);
           backward = λ place le lt q. elim (cases_eq place p) [
             | inl e ↦
                 let no_ : HasNoMember n (Breaks (left_before p list new ++ marked (drop (suc p) (map is_kept new)) (drop (suc p) list)) (get_or list p anything)) = rw others at none in
@@ -312,10 +339,6 @@ module _ (n s : ℕ) (list : List Constraint) (old new : List Decision) (p : ℕ
                 let has : get_or (map is_left new) place false ≡ true = rw left_after at q in
                 rw (mark, left_after, back_after (suc place) (omega arith)) (h.backward place past lt has)
           ];
-          fresh = λ place lt.
-              let ne : place ≢ p = omega arith in
-              let same_ : get_or (set new p SecondPass) place Kept ≡ get_or new place Kept = get_or-set_other new p place SecondPass Kept ne in
-              rw same_ (h.fresh place (omega arith));
           tested = λ place u. elim (cases_eq place p) [
             | inl e ↦ let there : get_or (set new p SecondPass) p Kept ≡ Untested = rw e at u in absurd (cc (there, written))
             | inr ne ↦ h.tested place (sym (get_or-set_other new p place SecondPass Kept ne) ∙ u)
@@ -324,12 +347,12 @@ module _ (n s : ℕ) (list : List Constraint) (old new : List Decision) (p : ℕ
         }
 
     -- one whose test is wide ends the pass
-    pub back-refused : (size : ℕ) → IsFirstPrefix n s (before is_kept p list new ++ after is_kept p list new) size
+    pub back-refused : IsPassingBack n s list old new (suc p) → (size : ℕ) → IsFirstPrefix n s (before is_kept p list new ++ after is_kept p list new) size
         → (es : List Decision) → length es ≡ length list → map is_left es ≡ map is_left old → TellsSecondPass n list es → IsFirstOfWide n s (in_phase 3 (tests [] list es)) 3 size
-    back-refused size first es many left told =
-        let left_new : map is_left new ≡ map is_left es = view_same before_second_pass is_left new old left-passes h.same ∙ sym left in
+    back-refused h size first es many left told =
+        let left_new : map is_left new ≡ map is_left es = view_same before_second_pass is_left new old left-passes g.same ∙ sym left in
         let gap_ : (k : ℕ) × (suc p + k ≡ length list) = (length list - suc p, omega arith) in
-        let kept_back = kept_same_from n list new es gap_.0 (suc p) gap_.1 h.as_many many left_new h.backward told in
+        let kept_back = kept_same_from n list new es gap_.0 (suc p) gap_.1 g.as_many many left_new h.backward told in
         let in_es : p < length es = omega (arith, many, in_list) in
         let has_es : is_left (get_or es p Kept) ≡ true =
         sym (get_or-map is_left es p Kept false in_es) ∙ (ap (λ (l : List Bool). get_or l p false) (sym left_new) ∙ (mark-of is_left ∙ has_left)) in
@@ -357,8 +380,8 @@ module _ (n s : ℕ) (list : List Constraint) (old new : List Decision) (p : ℕ
 
 pub back-all : (n s : ℕ) (list : List Constraint) (old new : List Decision) → IsPassingBack n s list old new 0 → IsSecondPassed n s list old new
 back-all n s list old new h = record {
-  same = h.same;
-  second_pass = backward_second_pass n list new h.as_many h.backward;
+  same = h.going.same;
+  second_pass = backward_second_pass n list new h.going.as_many h.backward;
   tested = h.tested;
   narrow = phase-narrow n s 3 (tests [] list new) h.narrow;
 }
@@ -369,7 +392,7 @@ pub back-step : (n s : ℕ) (list : List Constraint) (old new : List Decision) (
 back-step n s list old new at some h = let e : at ≡ suc (at - 1) = omega arith in subst (λ (k : ℕ). IsPassingBack n s list old new k) e h
 
 pub back-within : (n s : ℕ) (list : List Constraint) (old new : List Decision) (at : ℕ) → 0 < at → IsPassingBack n s list old new at → at - 1 < length list
-back-within n s list old new at some h = let le = h.at_most in omega (arith, le, some)
+back-within n s list old new at some h = let le = h.going.at_most in omega (arith, le, some)
 
 pub found-end : (n s : ℕ) (list : List Constraint) (new : List Decision) (at : ℕ) (ws : List (List ℕ)) → at ≤ 0 → AreFound n s list new at ws → AreFound n s list new 0 ws
 found-end n s list new at ws none found = let e : at ≡ 0 = omega arith in rw e at found

@@ -85,14 +85,14 @@ pub record IsCarried (n s : ℕ) (kept : List Constraint) (carried : KeptList) :
   pub example : IsLeastMember n (KeepsAll kept) carried.example
 
 -- with a candidate more
-same-more : (n s : ℕ) (kept : List Constraint) (carried : KeptList) (c : Constraint) → IsCarried n s kept carried
+pub same-more : (n s : ℕ) (kept : List Constraint) (carried : KeptList) (c : Constraint) → IsCarried n s kept carried
     → (w : List ℕ) → IsTrace n w → AcceptsKept carried.dfa c w ↔ KeepsAll (kept ++ c ∷ []) w
 same-more n s kept carried c h w tw = (
   λ p. push-keeps kept c w ((h.same w tw).0 p.0) p.1,
   λ all. let parts = keeps-push kept c w all in ((h.same w tw).1 parts.0, parts.1),
 )
 
-carried-more : (n s : ℕ) (kept : List Constraint) (old new : KeptList) (c : Constraint) → IsCarried n s kept old → JoinsKept s old c new → IsCarried n s (kept ++ c ∷ []) new
+pub carried-more : (n s : ℕ) (kept : List Constraint) (old new : KeptList) (c : Constraint) → IsCarried n s kept old → JoinsKept s old c new → IsCarried n s (kept ++ c ∷ []) new
 carried-more n s kept old new c h joins = record {
   over = joins.extends.over ∙ h.over;
   same = λ w tw.
@@ -119,21 +119,24 @@ no_before_nil (x ∷ w) (inr p) = p.1
 pub empty-narrow : (n s : ℕ) → 1 ≤ s → IsWide n (KeepsAll []) s → ⊥
 empty-narrow n s some wide = let t = wide.apart 0 1 (omega arith) some in t.differs (λ is. tt, λ is. tt)
 
+pub carried-none : (n s : ℕ) (carried : KeptList) → 1 ≤ s → IsEverything n carried.dfa → carried.length ≡ 0 → carried.example ≡ [] → IsCarried n s [] carried
+carried-none n s carried some every none empty = record {
+  over = every.over;
+  same = λ w tw. (λ is. tt, λ all. every.accepts_all w tw);
+  few = omega (arith, every.one_state);
+  carried_length = none;
+  example = rw empty (record {
+    over = tt;
+    member = tt;
+    none_before = λ w tw is before. no_before_nil w before;
+  });
+}
+
 pub so_far-none : (n s : ℕ) (list : List Constraint) (carried : KeptList) (decisions : List Decision) → 1 ≤ s → IsEverything n carried.dfa → carried.length ≡ 0 → carried.example ≡ [] → decisions ≡ []
     → IsSiftedSoFar n s list 0 carried decisions
 so_far-none n s list carried decisions some every none empty unmarked = rw unmarked (record {
   sifted = tt;
-  carried_of = record {
-    over = every.over;
-    same = λ w tw. (λ is. tt, λ all. every.accepts_all w tw);
-    few = omega (arith, every.one_state);
-    carried_length = none;
-    example = rw empty (record {
-      over = tt;
-      member = tt;
-      none_before = λ w tw is before. no_before_nil w before;
-    });
-  };
+  carried_of = carried-none n s carried some every none empty;
   narrow = λ count kept le after wide.
       let z : count ≡ 0 = omega arith in
       let sifted : IsSifted n [] [] after.decisions = rw z at after.sifted in
@@ -174,23 +177,14 @@ so_far-kept n s list at old new ds c more h joins =
       ];
     }
 
--- a candidate that the kept list implies
-pub so_far-implied : (n s : ℕ) (list : List Constraint) (at : ℕ) (old new : KeptList) (ds : List Decision) (c : Constraint) → take (at + 1) list ≡ take at list ++ c ∷ [] → at < length list
-    → IsSiftedSoFar n s list at old ds → HasNoMember old.dfa.symbols (AcceptsBroken old.dfa c) → new.dfa ≡ old.dfa → new.example ≡ old.example → new.length ≡ old.length + 1
-    → IsSiftedSoFar n s list (at + 1) new (ds ++ Kept ∷ [])
-so_far-implied n s list at old new ds c more lt h none same_dfa same_example long =
-    let kept = kept_of (take at list) ds in
-    let carried = h.carried_of in
+-- a candidate that the kept list implies joins it, and what is carried stays as it is
+pub implied-joins : (n s : ℕ) (kept : List Constraint) (old new : KeptList) (c : Constraint) → IsCarried n s kept old → (IsWide n (KeepsAll kept) s → ⊥) → HasNoMember old.dfa.symbols (AcceptsBroken old.dfa c) → new.dfa ≡ old.dfa
+    → new.example ≡ old.example → new.length ≡ old.length + 1 → JoinsKept s old c new
+implied-joins n s kept old new c carried narrow none same_dfa same_example long =
     let every : (w : List ℕ) → IsTrace old.dfa.symbols w → Accepts old.dfa w ↔ AcceptsKept old.dfa c w = λ w tw. (λ is. (is, keeps-stable c w (λ breaks. none w tw (is, breaks))), λ both. both.0) in
-    let narrow : IsWide n (KeepsAll kept) s → ⊥ = λ wide. h.narrow at kept (omega arith) (record {
-      within = omega arith;
-      decisions = ds;
-      sifted = h.sifted;
-      is = refl;
-    }) wide in
     let least : IsLeastMember old.dfa.symbols (Accepts old.dfa) old.example =
     least-same n old.dfa.symbols (KeepsAll kept) (Accepts old.dfa) old.example (sym carried.over) (λ w tw. let p = carried.same w (rw carried.over at tw) in (p.1, p.0)) carried.example in
-    so_far-kept n s list at old new ds c more h (record {
+    record {
       extends = record {
         over = ap (λ (a : Automaton). a.symbols) same_dfa;
         same = λ w tw. rw same_dfa (every w tw);
@@ -202,7 +196,20 @@ so_far-implied n s list at old new ds c more lt h none same_dfa same_example lon
       };
       example = rw same_example (least-same old.dfa.symbols old.dfa.symbols (Accepts old.dfa) (AcceptsKept old.dfa c) old.example refl every least);
       new_length = long;
-    })
+    }
+
+pub so_far-implied : (n s : ℕ) (list : List Constraint) (at : ℕ) (old new : KeptList) (ds : List Decision) (c : Constraint) → take (at + 1) list ≡ take at list ++ c ∷ [] → at < length list
+    → IsSiftedSoFar n s list at old ds → HasNoMember old.dfa.symbols (AcceptsBroken old.dfa c) → new.dfa ≡ old.dfa → new.example ≡ old.example → new.length ≡ old.length + 1
+    → IsSiftedSoFar n s list (at + 1) new (ds ++ Kept ∷ [])
+so_far-implied n s list at old new ds c more lt h none same_dfa same_example long =
+    let kept = kept_of (take at list) ds in
+    let narrow : IsWide n (KeepsAll kept) s → ⊥ = λ wide. h.narrow at kept (omega arith) (record {
+      within = omega arith;
+      decisions = ds;
+      sifted = h.sifted;
+      is = refl;
+    }) wide in
+    so_far-kept n s list at old new ds c more h (implied-joins n s kept old new c h.carried_of narrow none same_dfa same_example long)
 
 pub so_far-conflict : (n s : ℕ) (list : List Constraint) (at : ℕ) (old : KeptList) (ds : List Decision) (c : Constraint) → take (at + 1) list ≡ take at list ++ c ∷ []
     → at < length list → IsSiftedSoFar n s list at old ds → HasNoMember old.dfa.symbols (AcceptsKept old.dfa c) → IsSiftedSoFar n s list (at + 1) old (ds ++ Conflict ∷ [])

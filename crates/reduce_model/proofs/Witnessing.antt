@@ -144,6 +144,27 @@ witnessing-whole n s model ws known many = witnessing-all n s model (length ws) 
   narrow = known-narrow n s [] model ws known;
 })
 
+-- a prefix with one constraint more
+with_candidate : (n s : ℕ) (list : List Constraint) (prefix : Prefix) (c : Constraint) → IsStart n s list prefix → (w : List ℕ) → IsTrace n w → AcceptsKept prefix.dfa c w ↔ KeepsAll (list ++ c ∷ []) w
+with_candidate n s list prefix c start w tw =
+    let p = start.automaton.same w tw in (λ both. push-keeps list c w (p.0 both.0) both.1, λ all. let parts = keeps-push list c w all in (p.1 parts.0, parts.1))
+
+pub start-push : (n s : ℕ) (list : List Constraint) (prefix more : Prefix) (c : Constraint) → s ≤ 65536 → IsStart n s list prefix → Extends s prefix.dfa c more.dfa → more.length ≡ prefix.length + 1 → IsStart n s (list ++ c ∷ []) more
+start-push n s list prefix more c limit start x long = record {
+  automaton = record {
+    over = x.over ∙ start.automaton.over;
+    same = λ w tw.
+        let there = x.same w (rw start.automaton.over tw) in
+        let here = with_candidate n s list prefix c start w tw in (λ is. here.0 (there.0 is), λ all. there.1 (here.1 all));
+    few = let few_ = x.few in omega (arith, few_, limit);
+  };
+  counted = long ∙ (ap (λ (k : ℕ). k + 1) start.counted ∙ sym (length_push list c));
+  narrow = narrow-push n s list c start.narrow (λ wide. x.narrow (wide-over prefix.dfa.symbols n s (AcceptsKept prefix.dfa c) (KeepsAll (list ++ c ∷ [])) start.automaton.over (with_candidate n s list prefix c start) wide));
+}
+
+pub start-wide : (n s : ℕ) (list : List Constraint) (prefix : Prefix) (c : Constraint) → IsStart n s list prefix → IsWide prefix.dfa.symbols (AcceptsKept prefix.dfa c) s → IsWide n (KeepsAll (list ++ c ∷ [])) s
+start-wide n s list prefix c start wide = over-wide prefix.dfa.symbols n s (AcceptsKept prefix.dfa c) (KeepsAll (list ++ c ∷ [])) start.automaton.over (with_candidate n s list prefix c start) wide
+
 all-less : (n s : ℕ) (lists : List (List Constraint)) (less most : ℕ) → less ≤ most → AllByRecursion (IsNarrowList n s) (take most lists) → AllByRecursion (IsNarrowList n s) (take less lists)
 all-less n s lists zero most le h = tt
 all-less n s [] (suc less) most le h = tt
@@ -166,27 +187,8 @@ module _ (n s : ℕ) (model : List Constraint) (at : ℕ) (in_model : at < lengt
   longer : take (at + 1) model ≡ take at model ++ c ∷ []
   longer = take_more model at anything in_model
 
-  with_candidate : (w : List ℕ) → IsTrace n w → AcceptsKept before.dfa c w ↔ KeepsAll (take (at + 1) model) w
-  with_candidate w tw =
-      let start = h.start in_model in
-      let p = start.automaton.same w tw in
-      rw longer (λ both. push-keeps (take at model) c w (p.0 both.0) both.1, λ all. let parts = keeps-push (take at model) c w all in (p.1 parts.0, parts.1))
-
   pub start-more : (more : Prefix) → s ≤ 65536 → Extends s before.dfa c more.dfa → more.length ≡ before.length + 1 → IsStart n s (take (at + 1) model) more
-  start-more more limit x long =
-      let start = h.start in_model in
-      record {
-        automaton = record {
-          over = x.over ∙ start.automaton.over;
-          same = λ w tw.
-              let there = x.same w (rw start.automaton.over tw) in
-              let here = with_candidate w tw in (λ is. here.0 (there.0 is), λ all. there.1 (here.1 all));
-          few = let few_ = x.few in omega (arith, few_, limit);
-        };
-        counted = long ∙ (ap (λ (k : ℕ). k + 1) at-length ∙ sym (length-take-le (at + 1) model (omega (arith, in_model))));
-        narrow = rw longer (narrow-push n s (take at model) c start.narrow
-            (λ wide. x.narrow (wide-over before.dfa.symbols n s (AcceptsKept before.dfa c) (KeepsAll (take (at + 1) model)) start.automaton.over with_candidate (rw longer wide))));
-      }
+  start-more more limit x long = rw longer (start-push n s (take at model) before more c limit (h.start in_model) x long)
 
   -- one more witness is known, as it is found or from before
   pub at-found : (t : List ℕ) → length ws ≡ at → IsLeastMember n (Breaks (but at model) c) t → IsNarrowList n s (but at model) → IsWitnessingAt n s model at before (ws ++ t ∷ []) × (at + 1 ≤ length (ws ++ t ∷ []))
@@ -228,7 +230,7 @@ module _ (n s : ℕ) (model : List Constraint) (at : ℕ) (in_model : at < lengt
   pub start-refused : at + 1 < length model → (size : ℕ) → size ≡ before.length + 1 → at + 1 ≤ length ws → IsWide before.dfa.symbols (AcceptsKept before.dfa c) s → IsFirstOfWide n s (in_phase 4 (all_but_each [] model)) 4 size
   start-refused more size long enough wide =
       let start = h.start in_model in
-      let wide_ : IsWide n (KeepsAll (take (at + 1) model)) s = over-wide before.dfa.symbols n s (AcceptsKept before.dfa c) (KeepsAll (take (at + 1) model)) start.automaton.over with_candidate wide in
+      let wide_ : IsWide n (KeepsAll (take (at + 1) model)) s = rw longer (start-wide n s (take at model) before c start wide) in
       let front = length-take-le (at + 1) model (omega (arith, more)) in
       let both = length-append (take (at + 1) model) (drop (suc (at + 1)) model) in
       let cut : take (at + 1) (but (at + 1) model) ≡ take (at + 1) model =

@@ -4,5 +4,5 @@ pub mod Joining
 pub mod Deciding
 pub mod Building
 pub mod Reduction
-pub mod Passes
 pub mod Within
+pub mod Passes

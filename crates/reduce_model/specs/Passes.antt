@@ -9,17 +9,21 @@ use Rattle.dfa_core.specs.Traces.{IsTrace}
 use Rattle.dfa_minimise.specs.Wide.{IsWide}
 use Rattle.template_core.specs.declared.constraint.Constraint.{Constraint}
 use Rattle.reduce_model.specs.Building.{AreNarrow, IsFirstOfWide, all_but_each, in_phase, tests, up_to_each}
-use Rattle.reduce_model.specs.Deciding.{as_sifted, is_left, is_strongest, marked, those}
+use Rattle.reduce_model.specs.Deciding.{as_sifted, is_kept, is_left, is_strongest, marked, those}
 use Rattle.reduce_model.specs.Keeping.{KeepsAll, KeepsOne}
-use Rattle.reduce_model.specs.Reduction.{AreWitnesses, Breaks, IsReduction, TellsFirstPass, TellsSecondPass, TellsWeaker}
+use Rattle.reduce_model.specs.Reduction.{AreWitnesses, Breaks, Implies, IsReduction, TellsFirstPass, TellsSecondPass, TellsWeaker}
+use Rattle.reduce_model.specs.Joining.{AcceptsKept, Extends}
 use Rattle.reduce_model.specs.Sifting.{kept_of}
+use Rattle.reduce_model.specs.Within.{AreWitnessesWithin, IsClosed, IsFirstPassedWithin, IsReductionWithin, IsSecondPassedWithin, TellsUntested}
 use Rattle.reduce_model.specs.declared.decision.Decision.{Decision}
 use Rattle.reduce_model.specs.declared.decision.Decision.TheVariants.{Kept, FirstPass, SecondPass, Untested}
 use Rattle.reduce_model.specs.declared.grown.Grown.{Grown}
 use Rattle.reduce_model.specs.declared.grown.Grown.TheVariants.{All, Wide}
 use Rattle.reduce_model.specs.declared.grown.Sought.{Sought}
 use Rattle.reduce_model.specs.declared.grown.Sought.TheVariants.{Found, Missing, TooWide}
+use Rattle.reduce_model.specs.declared.first_within.FirstPassed.{FirstPassed}
 use Rattle.reduce_model.specs.declared.prefixes.Prefix.{Prefix}
+use Rattle.reduce_model.specs.declared.witnesses_within.Witnessed.{Witnessed}
 
 -- a decision without the marks of the first pass and of what comes after it, and without those of what comes after the first pass
 abbrev pub before_first_pass : Decision → Decision
@@ -178,3 +182,79 @@ abbrev pub IsSoughtFrom : ℕ → Automaton → ℕ → List Constraint → Cons
 IsSoughtFrom s a before list c (Found trace) = IsLeastMember a.symbols (AcceptsBreaks a list c) trace × IsNarrowFrom s a list
 IsSoughtFrom s a before list c Missing = HasNoMember a.symbols (AcceptsBreaks a list c) × IsNarrowFrom s a list
 IsSoughtFrom s a before list c (TooWide size) = IsWideAfter s a before list size
+
+-- ---- within a limit
+
+-- past a place, whatever comes after what is left is closed
+abbrev pub AreClosedPast : ℕ → ℕ → List Constraint → List Bool → ℕ → Type 0
+AreClosedPast n s list marks wide = (place : ℕ) (rest : List Constraint) → wide < place → place ≤ length list → IsClosed n s (marked (take place marks) (take place list) ++ rest)
+
+-- what the first pass makes of decisions, and what it keeps for the second
+pub record IsFirstPassedOf (n s : ℕ) (list : List Constraint) (old : List Decision) (passed : FirstPassed) : Type 0 where
+  pub same : map before_first_pass passed.decisions.items ≡ old
+  pub later : map before_second_pass passed.decisions.items ≡ passed.decisions.items
+  pub first_pass : IsFirstPassedWithin n s [] list passed.decisions.items
+  pub prefixes : AreKeptPrefixes n s list (map is_left passed.decisions.items) passed.prefixes.items
+  pub closed : AreClosedPast n s list (map is_left passed.decisions.items) passed.wide
+
+-- What the second pass makes of those that are left: one whose test is closed is untested.
+abbrev pub IsTestedWithin : ℕ → ℕ → List Constraint → List Constraint → List Decision → Type 0
+IsTestedWithin n s left [] decisions = ⊤
+IsTestedWithin n s left (c ∷ list) [] = ⊤
+IsTestedWithin n s left (c ∷ list) (SecondPass ∷ decisions) =
+    (IsClosed n s (left ++ those is_kept list decisions) → ⊥) × Implies n (left ++ those is_kept list decisions) c × IsTestedWithin n s (left ++ c ∷ []) list decisions
+IsTestedWithin n s left (c ∷ list) (Kept ∷ decisions) =
+    (IsClosed n s (left ++ those is_kept list decisions) → ⊥) × (Implies n (left ++ those is_kept list decisions) c → ⊥) × IsTestedWithin n s (left ++ c ∷ []) list decisions
+IsTestedWithin n s left (c ∷ list) (Untested ∷ decisions) = IsClosed n s (left ++ those is_kept list decisions) × IsTestedWithin n s (left ++ c ∷ []) list decisions
+IsTestedWithin n s left (c ∷ list) (decision ∷ decisions) = IsTestedWithin n s left list decisions
+
+pub record IsSecondPassedTo (n s : ℕ) (list : List Constraint) (old new : List Decision) : Type 0 where
+  pub same : map before_second_pass new ≡ old
+  pub tested : IsTestedWithin n s [] list new
+
+-- an automaton of a list that isn't wide, where there is one, and the list with one constraint more
+abbrev pub IsStartOf : ℕ → ℕ → List Constraint → Option Prefix → Type 0
+IsStartOf n s list None = IsClosed n s list
+IsStartOf n s list (Some prefix) = IsStart n s list prefix
+
+abbrev pub IsSmall : Option Prefix → Type 0
+IsSmall None = ⊤
+IsSmall (Some prefix) = state_count prefix.dfa ≤ 65536
+
+abbrev pub length_of : Option Prefix → ℕ
+length_of None = 0
+length_of (Some prefix) = prefix.length
+
+abbrev pub IsNext : ℕ → Option Prefix → Constraint → Option Prefix → Type 0
+IsNext s None c next = next ≡ None
+IsNext s (Some prefix) c None = IsWide prefix.dfa.symbols (AcceptsKept prefix.dfa c) s
+IsNext s (Some prefix) c (Some next) = Extends s prefix.dfa c next.dfa × (next.length ≡ prefix.length + 1)
+
+-- what is found of the others of a constraint: nothing where there is no automaton of those before it, or a list with them is wide
+abbrev pub IsFoundOf : ℕ → Option Prefix → List Constraint → Constraint → Option (List ℕ) → Type 0
+IsFoundOf s None list c found = found ≡ None
+IsFoundOf s (Some prefix) list c None = (size : ℕ) × IsWideFrom s prefix.dfa list size
+IsFoundOf s (Some prefix) list c (Some trace) = IsLeastMember prefix.dfa.symbols (AcceptsBreaks prefix.dfa list c) trace × IsNarrowFrom s prefix.dfa list
+
+-- no trace that an automaton accepts and that keeps a list breaks the constraint: that is left out
+abbrev pub IsBreakable : Option Prefix → List Constraint → Constraint → Type 0
+IsBreakable None list c = ⊤
+IsBreakable (Some prefix) list c = HasNoMember prefix.dfa.symbols (AcceptsBreaks prefix.dfa list c) → ⊥
+
+-- the decisions in the end, and the witnesses of those that are kept
+pub record IsWitnessedWithin (n s : ℕ) (list : List Constraint) (old : List Decision) (witnessed : Witnessed) : Type 0 where
+  pub same : map before_second_pass witnessed.decisions.items ≡ map before_second_pass old
+  pub second_pass : IsSecondPassedWithin n s [] list witnessed.decisions.items
+  pub untested : TellsUntested n s [] [] list witnessed.decisions.items
+  pub witnesses : AreWitnessesWithin n [] list witnessed.decisions.items witnessed.witnesses.items
+
+-- what the second pass and the witnesses make of decisions
+pub record IsTestedTo (n s : ℕ) (list : List Constraint) (old : List Decision) (witnessed : Witnessed) : Type 0 where
+  pub passed : List Decision
+  pub second : IsSecondPassedTo n s list old passed
+  pub in_the_end : IsWitnessedWithin n s list passed witnessed
+
+-- what becomes of a sift's decisions in the end: with its least trace a reduction
+abbrev pub IsDroppedWithin : ℕ → ℕ → List Constraint → List Decision → Witnessed → Type 0
+IsDroppedWithin n s list old witnessed =
+    (example : List ℕ) → IsLeastMember n (KeepsAll (kept_of list old)) example → IsReductionWithin n s list (record { decisions = witnessed.decisions.items; witnesses = witnessed.witnesses.items; example = example })

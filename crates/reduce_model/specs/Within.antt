@@ -75,6 +75,11 @@ pub record IsReducedWithin (n s : ℕ) (list : List Constraint) (decisions : Lis
   pub second_pass : IsSecondPassedWithin n s [] list decisions
   pub untested : TellsUntested n s [] [] list decisions
 
+-- a witness is told of it
+abbrev pub has_witness : Decision → Bool
+has_witness Kept = true
+has_witness decision = false
+
 -- for each constraint that is kept and not untested, the least trace that keeps all the others that stay and breaks it
 abbrev pub AreWitnessesWithin : ℕ → List Constraint → List Constraint → List Decision → List (List ℕ) → Type 0
 AreWitnessesWithin n kept [] decisions [] = ⊤

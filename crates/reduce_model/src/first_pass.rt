@@ -12,7 +12,7 @@ use std::alloc::Global;
 use template_core::Constraint;
 
 /// The tables of all prefixes that are kept have at most so many entries.
-const MOST_ENTRIES: u64 = 67_108_864;
+pub(crate) const MOST_ENTRIES: u64 = 67_108_864;
 
 /// Marks, from the first to the last, each candidate that those before it imply which are left. Gives what is left, as it arises.
 pub(crate) fn pass_first(

@@ -60,7 +60,13 @@ fn grow(
     let mut count = 0;
     for constraint in list {
         count += 1;
-        match extended(alloc, or_start(&grown, start), constraint, states, &mut last)? {
+        match extended(
+            alloc,
+            or_start(&grown, start),
+            constraint,
+            states,
+            &mut last,
+        )? {
             Some(more) => grown = Some(more),
             None => return Ok(Grown::Wide(count)),
         }

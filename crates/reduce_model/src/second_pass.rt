@@ -55,7 +55,7 @@ pub(crate) fn pass_second(
 }
 
 /// The candidates that stand from a place on, but for the one at another.
-fn others_from(
+pub(crate) fn others_from(
     alloc: Global,
     list: &[Constraint],
     decisions: &[Decision],

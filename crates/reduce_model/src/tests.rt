@@ -2,9 +2,9 @@ ghost use Rattle.std.specs.Bool.{OnTrue};
 ghost use Rattle.std.specs.Prelude.{◌≤◌, length, All, OnOk};
 ghost use Rattle.template_core.specs.Constraints.{IsWellMadeFor};
 
-use crate::{Decision, Reduced, Sifted, reduce, sift};
+use crate::{Decision, Reduced, Sifted, reduce, reduce_within, sift, sift_within};
 use decl_base::Refusal;
-use std::alloc::Global;
+use std::alloc::{AllocError, Global};
 use std::test::Fail;
 use template_core::{Constraint, Kind};
 use template_set::arity;
@@ -136,6 +136,17 @@ fn limit_is_exact(rt: HostRuntime) -> Result<(), Fail> {
     Ok(())
 }
 
+fn candidates(
+    alloc: Global,
+    rows: &[(Constraint, Decision)],
+) -> Result<Vec<Constraint>, AllocError> {
+    let mut list = Vec::new(alloc);
+    for (constraint, _) in rows {
+        list.push(*constraint)?;
+    }
+    Ok(list)
+}
+
 // Whether a list, each candidate with its decision, is reduced so, with these witnesses and this example.
 fn is_reduced_to(
     alloc: Global,
@@ -144,26 +155,48 @@ fn is_reduced_to(
     witnesses: &[&[u32]],
     example: &[u32],
 ) -> Result<bool, Refusal> {
-    let mut list = Vec::new(alloc);
-    for (constraint, _) in rows {
-        list.push(*constraint)?;
-    }
+    let list = candidates(alloc, rows)?;
     let reduced = reduced(alloc, &list, symbols, 16_384)?;
+    Ok(is_as_told(rows, &reduced, witnesses, example))
+}
+
+// And so within a number of states.
+fn is_reduced_within_to(
+    alloc: Global,
+    rows: &[(Constraint, Decision)],
+    states: u64,
+    witnesses: &[&[u32]],
+    example: &[u32],
+) -> Result<bool, Refusal> {
+    let list = candidates(alloc, rows)?;
+    admitted(&list, 2, states)?;
+    let sifted = sift_within(alloc, &list, 2, states)?;
+    let reduced = reduce_within(alloc, &list, 2, states)?;
+    Ok(
+        sifted.example().events() == reduced.example().events()
+            && is_as_told(rows, &reduced, witnesses, example),
+    )
+}
+
+fn is_as_told(
+    rows: &[(Constraint, Decision)],
+    reduced: &Reduced,
+    witnesses: &[&[u32]],
+    example: &[u32],
+) -> bool {
     for (row, decision) in rows.iter().zip(reduced.decisions()) {
         if row.1 != *decision {
-            return Ok(false);
+            return false;
         }
     }
     for (wanted, witness) in witnesses.iter().zip(reduced.witnesses()) {
         if *wanted != witness.events() {
-            return Ok(false);
+            return false;
         }
     }
-    Ok(
-        reduced.decisions().len() == rows.len()
-            && reduced.witnesses().len() == witnesses.len()
-            && reduced.example().events() == example,
-    )
+    reduced.decisions().len() == rows.len()
+        && reduced.witnesses().len() == witnesses.len()
+        && reduced.example().events() == example
 }
 
 // The candidates of the log of the trace 0, 1 twice, in their order.
@@ -252,13 +285,35 @@ fn each_reason_is_told(rt: HostRuntime) -> Result<(), Fail> {
 
 #[test]
 fn tests_are_counted(rt: HostRuntime) -> Result<(), Fail> {
-    let mut list = Vec::new(rt.alloc());
-    for (constraint, _) in &pair() {
-        list.push(*constraint)?;
-    }
+    let list = candidates(rt.alloc(), &pair())?;
     // Without the first constraint, the second and the third that stay tell five traces apart.
     let refusal = reduced(rt.alloc(), &list, 2, 4).err();
     assert_eq!(rt; refusal, Some(Refusal::States { phase: 3, built: 2 }));
     assert!(rt; reduced(rt.alloc(), &list, 2, 5).is_ok());
+    Ok(())
+}
+
+#[test]
+fn limit_is_gone_past(rt: HostRuntime) -> Result<(), Fail> {
+    let alloc = rt.alloc();
+    let five: [&[u32]; 4] = [&[1], &[0], &[0, 0, 1], &[0, 1, 1]];
+    assert!(rt; is_reduced_within_to(alloc, &pair(), 5, &five, &[0, 1])?);
+    let mut rows = pair();
+    rows[0].1 = Decision::Untested;
+    let four: [&[u32]; 3] = [&[0], &[0, 0, 1], &[0, 1, 1]];
+    assert!(rt; is_reduced_within_to(alloc, &rows, 4, &four, &[0, 1])?);
+    let mut rows = pair();
+    for (place, row) in rows.iter_mut().enumerate() {
+        row.1 = match place {
+            0 | 4 => Decision::Kept,
+            2 => Decision::Weaker { by: 0 },
+            15 | 18 => Decision::FirstPass,
+            17 => Decision::Weaker { by: 15 },
+            19 => Decision::Weaker { by: 18 },
+            _ => Decision::Beyond,
+        };
+    }
+    let three: [&[u32]; 2] = [&[], &[0, 0]];
+    assert!(rt; is_reduced_within_to(alloc, &rows, 3, &three, &[0])?);
     Ok(())
 }

@@ -1,9 +1,18 @@
-ghost use Rattle.std.specs.Prelude.{◌≡◌, ◌≤◌, length, All, IfOk, IfErr};
+ghost use Rattle.std.specs.Prelude.{◌≡◌, ◌≤◌, [], length, map, All, IfOk, IfErr};
 ghost use Rattle.template_core.specs.Constraints.{IsWellMadeFor};
-ghost use Rattle.reduce_model.specs.Within.{IsReductionWithin, IsSiftWithin};
+ghost use Rattle.reduce_model.specs.Deciding.{is_left};
+ghost use Rattle.reduce_model.specs.Passes.{before_second_pass, AreClosedPast, AreKeptPrefixes, IsDroppedWithin, IsTestedTo};
+ghost use Rattle.reduce_model.specs.Within.{IsReductionWithin, IsSiftWithin, IsSiftedWithin};
 
-use crate::{Reduced, Sifted};
-use decl_base::Refusal;
+use crate::first_within::pass_first_within;
+use crate::kept::{Joined, KeptList};
+use crate::prefixes::Prefix;
+use crate::pruning::prune;
+use crate::second_within::pass_second_within;
+use crate::witnesses_within::{Witnessed, witnesses_within};
+use crate::{Decision, Reduced, Sifted};
+use decl_base::{Refusal, Trace};
+use dfa_core::Dfa;
 use std::alloc::Global;
 use template_core::Constraint;
 
@@ -22,7 +31,33 @@ pub fn sift_within(
     ensures ok { IfOk result (IsSiftWithin symbols states list.now) }
     ensures err { IfErr result (λ e. e ≡ Refusal.Memory) }
 {
-    Err(Refusal::Memory)
+    let mut kept = KeptList {
+        dfa: Dfa::everything(alloc, symbols)?,
+        length: 0,
+        example: Trace::of(alloc, &[])?,
+    };
+    let mut decisions = Vec::new(alloc);
+    let mut last = 1;
+    for candidate in list {
+        match kept.joined(alloc, candidate, states, &mut last)? {
+            Joined::Implied => {
+                kept.length += 1;
+                decisions.push(Decision::Kept)?;
+            }
+            Joined::Joins(joined) => {
+                kept = joined;
+                decisions.push(Decision::Kept)?;
+            }
+            Joined::Wide => decisions.push(Decision::Beyond)?,
+            Joined::Conflicts => decisions.push(Decision::Conflict)?,
+        }
+    }
+    let KeptList {
+        dfa: _,
+        length: _,
+        example,
+    } = kept;
+    Ok(Sifted { decisions, example })
 }
 
 /// Goes through the candidates as `sift_within` does, and then drops each constraint of that model that another one of it is above or that
@@ -41,5 +76,71 @@ pub fn reduce_within(
     ensures ok { IfOk result (IsReductionWithin symbols states list.now) }
     ensures err { IfErr result (λ e. e ≡ Refusal.Memory) }
 {
-    Err(Refusal::Memory)
+    let Sifted {
+        mut decisions,
+        example,
+    } = sift_within(alloc, list, symbols, states)?;
+    let Witnessed {
+        decisions: told,
+        witnesses,
+    } = drop_within(alloc, list, symbols, states, &mut decisions)?;
+    Ok(Reduced {
+        decisions: told,
+        witnesses,
+        example,
+    })
+}
+
+/// Goes on after the conflicts are told and what is beyond.
+fn drop_within(
+    alloc: Global,
+    list: &[Constraint],
+    symbols: u32,
+    states: u64,
+    decisions: &mut [Decision],
+) -> Result<Witnessed, Refusal>
+    requires made { All (IsWellMadeFor symbols) list.now }
+    requires few { length list.now ≤ 65536 }
+    requires some_states { 1 ≤ states }
+    requires few_states { states ≤ 65536 }
+    requires sifted { IsSiftedWithin symbols states [] list.now decisions.old }
+    ensures ok { IfOk result (λ witnessed. IsDroppedWithin symbols states list.now decisions.old witnessed) }
+    ensures err { IfErr result (λ e. e ≡ Refusal.Memory) }
+{
+    prune(list, decisions);
+    let mut passed = pass_first_within(alloc, list, symbols, states, decisions)?;
+    test_within(
+        alloc,
+        list,
+        symbols,
+        states,
+        &passed.prefixes,
+        passed.wide,
+        &mut passed.decisions,
+    )
+}
+
+/// Goes on after the first pass.
+fn test_within(
+    alloc: Global,
+    list: &[Constraint],
+    symbols: u32,
+    states: u64,
+    prefixes: &[Prefix],
+    wide: usize,
+    decisions: &mut [Decision],
+) -> Result<Witnessed, Refusal>
+    requires made { All (IsWellMadeFor symbols) list.now }
+    requires as_many { length decisions.old ≡ length list.now }
+    requires few { length list.now ≤ 65536 }
+    requires some_states { 1 ≤ states }
+    requires few_states { states ≤ 65536 }
+    requires kept { AreKeptPrefixes symbols states list.now (map is_left decisions.old) prefixes.now }
+    requires closed { AreClosedPast symbols states list.now (map is_left decisions.old) wide }
+    requires passed { map before_second_pass decisions.old ≡ decisions.old }
+    ensures ok { IfOk result (λ witnessed. IsTestedTo symbols states list.now decisions.old witnessed) }
+    ensures err { IfErr result (λ e. e ≡ Refusal.Memory) }
+{
+    pass_second_within(alloc, list, symbols, states, prefixes, wide, decisions)?;
+    witnesses_within(alloc, list, symbols, states, decisions)
 }

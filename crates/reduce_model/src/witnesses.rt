@@ -40,7 +40,14 @@ pub(crate) fn witnesses_of(
         let built = before.length + 1;
         let constraint = &model[place];
         if witnesses.len() == place {
-            match seek(alloc, before, &model[place + 1..], constraint, symbols, states)? {
+            match seek(
+                alloc,
+                before,
+                &model[place + 1..],
+                constraint,
+                symbols,
+                states,
+            )? {
                 Sought::Found(witness) => witnesses.push(witness)?,
                 Sought::Missing => unreachable!(),
                 Sought::TooWide(built) => return Err(Refusal::States { phase: 4, built }),

@@ -1,9 +1,12 @@
 use Rattle.std.proofs.Common.{get_or, refl, arith}
 use Rattle.std.proofs.lemmas.List.{take_all, take_more}
 use Rattle.reduce_model.proofs.Marks.{anything}
-use Rattle.reduce_model.proofs.Sifts.{so_far-all, so_far-conflict, so_far-implied, so_far-kept, so_far-length, so_far-refused}
+use Rattle.reduce_model.proofs.Sifts.{so_far-all, so_far-conflict, so_far-implied, so_far-kept, so_far-length, so_far-none, so_far-refused}
 use Rattle.reduce_model.proofs.conflicts.sift.Goals as goal
 use Rattle.reduce_model.proofs.conflicts.sift.Goals.{in-Implied+in_ok-push-in-Implied, in-Joins+in_ok-push-in-Joins, in-Conflicts+in_ok-push-in-Conflicts}
+
+pub loop-candidate-init : goal.loop-candidate-init
+loop-candidate-init c = so_far-none c.args.symbols c.args.states c.args.list.now _ _ c.requires.some_states c.in_ok-everything.ensures.ok refl c.in_ok-of.ensures.ok c.new-decisions.ensures.items
 
 pub joined-requires-clause-room : goal.joined-requires-clause-room
 joined-requires-clause-room c =

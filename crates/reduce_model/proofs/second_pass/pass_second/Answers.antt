@@ -26,7 +26,7 @@ seek-requires-clause-short c =
     let prefix = c.index-prefixes-longest_before.result in
     let of : IsPrefixOf n s list (map is_left old) prefix = subst (λ (p : Prefix). IsPrefixOf n s list (map is_left old) p) (sym c.index-prefixes-longest_before.is) (c.requires.kept.are c.longest_before.result prefix c.longest_before.ensures.within) in
     let le : prefix.place ≤ at - 1 = subst (λ (p : Prefix). p.place ≤ at - 1) (sym c.index-prefixes-longest_before.is) (c.longest_before.ensures.before prefix) in
-    let short = back-length n s list old new (at - 1) (back-within n s list old new at some c.loop-place.invariant.passing) (back-step n s list old new at some c.loop-place.invariant.passing) (sym c.is_kept.ensures ∙ c.if-is_kept.true) prefix le of in
+    let short = back-length n s list old new (at - 1) (back-within n s list old new at some c.loop-place.invariant.passing) (back-step n s list old new at some c.loop-place.invariant.passing).going (sym c.is_kept.ensures ∙ c.if-is_kept.true) prefix le of in
     rw (c.deref.ensures.value, c.in_ok-others.ensures) (omega (arith, short, c.requires.few))
 
 pub returns-in-TooWide-clause-err : goal.returns-in-TooWide-clause-err
@@ -44,8 +44,8 @@ returns-in-TooWide-clause-err c =
     let within = back-within n s list old new at some c.loop-place.invariant.passing in
     let passing = back-step n s list old new at some c.loop-place.invariant.passing in
     let kept = sym c.is_kept.ensures ∙ c.if-is_kept.true in
-    back-refused n s list old new (at - 1) within passing kept c.in-TooWide.built
-    (back-sought n s list old new (at - 1) within passing kept prefix le of (get_or list (at - 1) anything) (TooWide c.in-TooWide.built) (rw (c.deref.ensures.value, c.in_ok-others.ensures) at (rw c.in-TooWide.is at c.in_ok-trace.ensures.ok)))
+    back-refused n s list old new (at - 1) within passing.going kept passing c.in-TooWide.built
+    (back-sought n s list old new (at - 1) within passing.going kept prefix le of (get_or list (at - 1) anything) (TooWide c.in-TooWide.built) (rw (c.deref.ensures.value, c.in_ok-others.ensures) at (rw c.in-TooWide.is at c.in_ok-trace.ensures.ok)))
 
 pub loop-place-preserved-then-is_kept : goal.loop-place-preserved-then-is_kept
 loop-place-preserved-then-is_kept c =
@@ -64,15 +64,15 @@ loop-place-preserved-then-is_kept c =
     let kept = sym c.is_kept.ensures ∙ c.if-is_kept.true in
     elim c.match-branch-3.branch [
       | in-Found+in_ok-push-in-Found w ↦
-          let sought = back-sought n s list old new (at - 1) within passing kept prefix le of (get_or list (at - 1) anything) (Found w.in-Found.trace) (rw (c.deref.ensures.value, c.in_ok-others.ensures) at (rw w.in-Found.is at c.in_ok-trace.ensures.ok)) in
+          let sought = back-sought n s list old new (at - 1) within passing.going kept prefix le of (get_or list (at - 1) anything) (Found w.in-Found.trace) (rw (c.deref.ensures.value, c.in_ok-others.ensures) at (rw w.in-Found.is at c.in_ok-trace.ensures.ok)) in
           rw (w.decisions-is, w.found-is, w.in_ok-push-in-Found.ensures.items) (record {
-            passing = back-found n s list old new (at - 1) within passing kept w.in-Found.trace sought.0 sought.1;
-            witnesses = found-more n s list old new (at - 1) within passing kept c.loop-place.found.items w.in-Found.trace sought.0 sought.1 (found-step n s list new at (reverse c.loop-place.found.items) some c.loop-place.invariant.witnesses);
+            passing = back-found n s list old new (at - 1) within passing.going kept passing w.in-Found.trace sought.0 sought.1;
+            witnesses = found-more n s list old new (at - 1) within passing.going kept c.loop-place.found.items w.in-Found.trace sought.0 sought.1 (found-step n s list new at (reverse c.loop-place.found.items) some c.loop-place.invariant.witnesses);
           })
       | in-Missing w ↦
-          let sought = back-sought n s list old new (at - 1) within passing kept prefix le of (get_or list (at - 1) anything) Missing (rw (c.deref.ensures.value, c.in_ok-others.ensures) at (rw w.in-Missing.is at c.in_ok-trace.ensures.ok)) in
+          let sought = back-sought n s list old new (at - 1) within passing.going kept prefix le of (get_or list (at - 1) anything) Missing (rw (c.deref.ensures.value, c.in_ok-others.ensures) at (rw w.in-Missing.is at c.in_ok-trace.ensures.ok)) in
           rw (w.decisions-is, w.found-is, w.clear.ensures.items) (record {
-            passing = back-missing n s list old new (at - 1) within passing kept sought.0 sought.1;
+            passing = back-missing n s list old new (at - 1) within passing.going kept passing sought.0 sought.1;
             witnesses = record { witnesses = tt; first = refl };
           })
     ]
@@ -90,8 +90,8 @@ loop-place-preserved c =
     let passing = back-step n s list old new at some c.loop-place.invariant.passing in
     let lacks = sym c.is_kept.ensures ∙ c.if-is_kept.false in
     record {
-      passing = back-on n s list old new (at - 1) within passing lacks;
-      witnesses = found-on n s list old new (at - 1) within passing (reverse c.loop-place.found.items) lacks (found-step n s list new at (reverse c.loop-place.found.items) some c.loop-place.invariant.witnesses);
+      passing = back-on n s list old new (at - 1) within passing.going passing lacks;
+      witnesses = found-on n s list old new (at - 1) within passing.going (reverse c.loop-place.found.items) lacks (found-step n s list new at (reverse c.loop-place.found.items) some c.loop-place.invariant.witnesses);
     }
 
 pub returns-clause-ok : goal.returns-clause-ok

@@ -86,10 +86,10 @@ loop-place-preserved c =
     ] in
     elim c.if-place-model.branch [
       | then-place-model+in_ok-dfa+in-Some w ↦
-          rw w.before-is
+          rw w.grown-is
           (next-more n s model at inside (grown_from c.args.start.now c.loop-place.grown) c.if-len-place.witnesses.items known.0 _ known.1
           (start-more n s model at inside (grown_from c.args.start.now c.loop-place.grown) c.if-len-place.witnesses.items known.0 _ c.requires.few_states (rw c.or_start-before.ensures at (rw w.in-Some.is at w.in_ok-dfa.ensures.ok)) (ap (λ (p : Prefix). p.length + 1) c.or_start-before.ensures)))
-      | else-place-model w ↦ rw w.before-is (next-last n s model at inside (grown_from c.args.start.now c.loop-place.grown) c.if-len-place.witnesses.items known.0 known.1 w.if-place-model.false)
+      | else-place-model w ↦ rw w.grown-is (next-last n s model at inside (grown_from c.args.start.now c.loop-place.grown) c.if-len-place.witnesses.items known.0 known.1 w.if-place-model.false)
     ]
 
 pub returns-clause-ok : goal.returns-clause-ok

@@ -1,5 +1,5 @@
 -- Two lists side by side, one more place at a time, and what is chosen of them.
-use Rattle.std.proofs.Common.{◌≡◌, ℕ, ◌+◌, ◌<◌, List, [], ◌∷◌, ◌++◌, Bool, true, false, cond, length, take, drop, get_or, count_by, map, refl, sym, ap, ap₂, ◌∙◌, arith, length-take, append-nil, drop-cons, true≢false, zero, suc, ◌≤◌, Option, None, Some}
+use Rattle.std.proofs.Common.{◌≡◌, ℕ, ◌+◌, ◌<◌, List, [], ◌∷◌, ◌++◌, Bool, true, false, cond, length, take, drop, get_or, count_by, map, refl, sym, ap, ap₂, ◌∙◌, arith, length-take, append-nil, drop-cons, true≢false, suc, Option, None, Some}
 use Rattle.std.specs.Prelude.{All}
 use Rattle.template_core.proofs.Traces.{count_by-cons}
 use Rattle.template_core.specs.Events.{one_if}
@@ -9,7 +9,7 @@ use Rattle.std.specs.List.{filter, zip}
 use Rattle.reduce_model.specs.declared.decision.Decision.{Decision}
 use Rattle.scoring.specs.declared.scored.Scored.{Scored}
 use Rattle.reduce_model.specs.Deciding.{is_kept}
-use Rattle.reduce_model.specs.declared.decision.Decision.TheVariants.{Kept, Conflict, Weaker, FirstPass, SecondPass, Beyond, Untested}
+use Rattle.reduce_model.specs.declared.decision.Decision.TheVariants.{Kept, Untested}
 use Rattle.model_json.specs.Report.{is_tested, staying, with_witnesses}
 
 zip-append : {X Y : Type 0} (xs us : List X) (ys vs : List Y) → length xs ≡ length ys → zip (xs ++ us) (ys ++ vs) ≡ zip xs ys ++ zip us vs
@@ -53,14 +53,14 @@ All-staying P list decisions h =
 module _ (s : Scored) (list : List Scored) (decisions : List Decision) where
   with-tested : (d : Decision) (witness : List ℕ) (witnesses : List (List ℕ)) → is_tested d ≡ true
       → with_witnesses (s ∷ list) (d ∷ decisions) (witness ∷ witnesses) ≡ (s, Some witness) ∷ with_witnesses list decisions witnesses
-  with-tested Kept witness witnesses kept = refl
-  with-tested d witness witnesses kept = absurd (true≢false (sym kept))
+  with-tested Kept witness witnesses tested = refl
+  with-tested d witness witnesses tested = absurd (true≢false (sym tested))
 
   with-untested : (d : Decision) (witnesses : List (List ℕ)) → is_tested d ≡ false → is_kept d ≡ true
       → with_witnesses (s ∷ list) (d ∷ decisions) witnesses ≡ (s, None) ∷ with_witnesses list decisions witnesses
-  with-untested Untested witnesses kept stays = refl
-  with-untested Kept witnesses kept stays = absurd (true≢false kept)
-  with-untested d witnesses kept stays = absurd (true≢false (sym stays))
+  with-untested Untested witnesses tested stays = refl
+  with-untested Kept witnesses tested stays = absurd (true≢false tested)
+  with-untested d witnesses tested stays = absurd (true≢false (sym stays))
 
   with-dropped : (d : Decision) (witnesses : List (List ℕ)) → is_kept d ≡ false → with_witnesses (s ∷ list) (d ∷ decisions) witnesses ≡ with_witnesses list decisions witnesses
   with-dropped Kept witnesses out = absurd (true≢false out)
@@ -78,15 +78,6 @@ rest_of list decisions witnesses i next = with_witnesses (drop i list) (drop i d
 
 abbrev pub AreLeft : List Decision → List (List ℕ) → ℕ → ℕ → Type 0
 AreLeft decisions witnesses i next = length (drop next witnesses) ≡ count_by is_tested (drop i decisions)
-
-drop-past : {X : Type 0} (i : ℕ) (xs : List X) → length xs ≤ i → drop i xs ≡ []
-drop-past zero [] le = refl
-drop-past zero (x ∷ xs) le = absurd (omega arith)
-drop-past (suc i) [] le = refl
-drop-past (suc i) (x ∷ xs) le = drop-past i xs (omega arith)
-
-pub rest-none : (list : List Scored) (decisions : List Decision) (witnesses : List (List ℕ)) (i next : ℕ) → length list ≤ i → rest_of list decisions witnesses i next ≡ []
-rest-none list decisions witnesses i next le = ap (λ l. with_witnesses l (drop i decisions) (drop next witnesses)) (drop-past i list le)
 
 module _ (list : List Scored) (decisions : List Decision) (witnesses : List (List ℕ)) (i next : ℕ) (s : Scored) (d other : Decision)
     (many : length decisions ≡ length list) (inside : i < length list) (s_is : s ≡ get_or list i s) (d_is : d ≡ get_or decisions i other) (left : AreLeft decisions witnesses i next) where
@@ -132,7 +123,8 @@ All-unmap P f [] all = All-nil (λ x. P (f x))
 All-unmap P f (x ∷ xs) all = All-cons (λ x. P (f x)) x xs (All-head P (f x) (map f xs) all) (All-unmap P f xs (All-tail P (f x) (map f xs) all))
 
 -- with their witnesses or without, the same constraints stay
-pub stay-same : (list : List Scored) (decisions : List Decision) (witnesses : List (List ℕ)) → length witnesses ≡ count_by is_tested decisions → map (λ p. p.0.constraint) (with_witnesses list decisions witnesses) ≡ map (λ s. s.constraint) (staying list decisions)
+pub stay-same : (list : List Scored) (decisions : List Decision) (witnesses : List (List ℕ)) → length witnesses ≡ count_by is_tested decisions
+    → map (λ p. p.0.constraint) (with_witnesses list decisions witnesses) ≡ map (λ s. s.constraint) (staying list decisions)
 stay-same [] [] witnesses many = refl
 stay-same [] (d ∷ decisions) witnesses many = refl
 stay-same (s ∷ list) [] witnesses many = refl

@@ -7,7 +7,7 @@ use Rattle.serde_json.specs.View.{items_of}
 use Rattle.scoring.specs.declared.scored.Scored.{Scored}
 use Rattle.template_core.specs.declared.constraint.Constraint.{Constraint}
 use Rattle.template_core.specs.declared.repertoire.Repertoire.{Repertoire}
-use Rattle.template_core.specs.declared.repertoire.Repertoire.TheVariants.{First, Second}
+use Rattle.model_json.proofs.EachRepertoire.{each_repertoire}
 use Rattle.reduce_model.specs.Sifting.{Sifting}
 use Rattle.reduce_model.specs.declared.decision.Decision.{Decision}
 use Rattle.reduce_model.specs.declared.decision.Decision.TheVariants.{Kept, Conflict, Weaker, FirstPass, SecondPass, Beyond, Untested}
@@ -57,22 +57,17 @@ decided_depth names list s SecondPass = omega (arith, scored names s (why (codes
 decided_depth names list s Beyond = omega (arith, scored names s (why (codes "beyond")) (omega arith))
 decided_depth names list s Untested = omega (arith, untested_depth names s)
 
--- a version is no deeper
-of_version : (repertoire : Repertoire) (report : Repertoire → Data) → depth (report First) ≤ max_depth → depth (report Second) ≤ max_depth → depth (report repertoire) ≤ max_depth
-of_version First report first second = first
-of_version Second report first second = second
-
 pub depth-scores_report : (names : List (List ℕ)) (repertoire : Repertoire) (list : List Scored) (traces events : ℕ) → depth (scores_report names repertoire list traces events) ≤ max_depth
 depth-scores_report names repertoire list traces events =
     let kept = items (scored_value names) 3 (scored_depth names) list in
-    of_version repertoire (λ repertoire. scores_report names repertoire list traces events) (omega (arith, kept, tasks names)) (omega (arith, kept, tasks names))
+    each_repertoire (λ r. depth (scores_report names r list traces events) ≤ max_depth) (omega (arith, kept, tasks names)) (omega (arith, kept, tasks names)) repertoire
 
 -- of the stages that drop constraints
 report : (repertoire : Repertoire) (constraints dropped : List Data) (names : List (List ℕ)) (example : List ℕ) (traces events : ℕ) → items_depth (items_of constraints) ≤ 3 → items_depth (items_of dropped) ≤ 4
     → depth (versioned repertoire (report_object constraints dropped events (trace_value names example) (map string names) traces)) ≤ max_depth
 report repertoire constraints dropped names example traces events kept out =
-    of_version repertoire (λ repertoire. versioned repertoire (report_object constraints dropped events (trace_value names example) (map string names) traces))
-    (omega (arith, kept, out, trace names example, tasks names)) (omega (arith, kept, out, trace names example, tasks names))
+    each_repertoire (λ r. depth (versioned r (report_object constraints dropped events (trace_value names example) (map string names) traces)) ≤ max_depth)
+    (omega (arith, kept, out, trace names example, tasks names)) (omega (arith, kept, out, trace names example, tasks names)) repertoire
 
 dropped : (names : List (List ℕ)) (list : List Scored) (decisions : List Decision) → items_depth (items_of (dropped_values names list decisions)) ≤ 4
 dropped names list decisions =

@@ -1,5 +1,5 @@
 -- What is read of each element of a list.
-use Rattle.std.proofs.Common.{◌≡◌, ℕ, suc, List, [], ◌∷◌, ◌&&◌, Bool, true, false, cond, map, length, codes, refl, sym, ap, ap₂, ◌∙◌, Option, None, Some, option_map, option_and_then, is_some}
+use Rattle.std.proofs.Common.{◌≡◌, ℕ, suc, List, [], ◌∷◌, ◌&&◌, Bool, true, false, map, length, codes, refl, sym, ap, ap₂, ◌∙◌, Option, None, Some, option_map, option_and_then, is_some}
 use Rattle.std.specs.List.{list_all, filter_map, cons_option}
 use Rattle.std.proofs.lemmas.List.Folds.{list_all-map}
 use Rattle.serde_json.specs.Data.{Data, Items}

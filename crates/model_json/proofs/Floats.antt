@@ -6,7 +6,7 @@ use Rattle.serde_json.specs.Written.{has_float, items_have_float, members_have_f
 use Rattle.scoring.specs.declared.scored.Scored.{Scored}
 use Rattle.template_core.specs.declared.constraint.Constraint.{Constraint}
 use Rattle.template_core.specs.declared.repertoire.Repertoire.{Repertoire}
-use Rattle.template_core.specs.declared.repertoire.Repertoire.TheVariants.{First, Second}
+use Rattle.model_json.proofs.EachRepertoire.{each_repertoire}
 use Rattle.reduce_model.specs.Sifting.{Sifting}
 use Rattle.reduce_model.specs.declared.decision.Decision.{Decision}
 use Rattle.reduce_model.specs.declared.decision.Decision.TheVariants.{Kept, Conflict, Weaker, FirstPass, SecondPass, Beyond, Untested}
@@ -55,15 +55,10 @@ has_float-decided_value names list s SecondPass = scored names s (why (codes "se
 has_float-decided_value names list s Beyond = scored names s (why (codes "beyond")) refl
 has_float-decided_value names list s Untested = has_float-untested_value names s
 
--- nor is a version a float
-of_version : (repertoire : Repertoire) (report : Repertoire → Data) → has_float (report First) ≡ false → has_float (report Second) ≡ false → has_float (report repertoire) ≡ false
-of_version First report first second = first
-of_version Second report first second = second
-
 pub has_float-scores_report : (names : List (List ℕ)) (repertoire : Repertoire) (list : List Scored) (traces events : ℕ) → has_float (scores_report names repertoire list traces events) ≡ false
 has_float-scores_report names repertoire list traces events =
     let none = ap₂ (λ a b. a || (b || false)) (items_have_float-map (scored_value names) (has_float-scored_value names) list) (tasks names) in
-    of_version repertoire (λ repertoire. scores_report names repertoire list traces events) none none
+    each_repertoire (λ r. has_float (scores_report names r list traces events) ≡ false) none none repertoire
 
 -- of the stages that drop constraints
 report : (repertoire : Repertoire) (constraints dropped : List Data) (names : List (List ℕ)) (example : List ℕ) (traces events : ℕ) → items_have_float (items_of constraints) ≡ false
@@ -71,7 +66,7 @@ report : (repertoire : Repertoire) (constraints dropped : List Data) (names : Li
 report repertoire constraints dropped names example traces events kept out =
     let none = ap₂ (λ a b. a || (b || (has_float (trace_value names example) || (items_have_float (items_of (map string names)) || false)))) kept out
     ∙ ap₂ (λ a b. a || (b || false)) (trace names example) (tasks names) in
-    of_version repertoire (λ repertoire. versioned repertoire (report_object constraints dropped events (trace_value names example) (map string names) traces)) none none
+    each_repertoire (λ r. has_float (versioned r (report_object constraints dropped events (trace_value names example) (map string names) traces)) ≡ false) none none repertoire
 
 dropped : (names : List (List ℕ)) (list : List Scored) (decisions : List Decision) → items_have_float (items_of (dropped_values names list decisions)) ≡ false
 dropped names list decisions =

@@ -26,6 +26,7 @@ use Rattle.template_set.proofs.EachKind.{all_templates, each_kind}
 use Rattle.template_set.specs.Names.{all_kinds, name_of}
 use Rattle.model_json.specs.Model.{Item, item_of, item_read, kind_named, activities_in, activities, is_twice, put_in, within}
 use Rattle.model_json.proofs.Causes.{goes_on, stops}
+use Rattle.model_json.proofs.EachRepertoire.{each_repertoire}
 
 -- ---- names of templates
 
@@ -63,8 +64,10 @@ maps_same f g [] same = All-nil (λ x. f x ≡ g x)
 maps_same f g (x ∷ xs) same = let first : f x ≡ g x = cc in All-cons (λ x. f x ≡ g x) x xs first (maps_same f g xs (cc))
 
 own : (repertoire : Repertoire) (kind : Kind) → IsTemplate kind → OwnName repertoire kind
-own First = each_kind (OwnName First) (maps_same (λ kind. kind_named First (name_of kind)) (λ kind. cond (is_of First kind) (Some kind) None) all_kinds refl)
-own Second = each_kind (OwnName Second) (maps_same (λ kind. kind_named Second (name_of kind)) (λ kind. cond (is_of Second kind) (Some kind) None) all_kinds refl)
+own repertoire = each_kind (OwnName repertoire) (each_repertoire (λ r. All (OwnName r) all_kinds) (all First refl) (all Second refl) repertoire)
+  where
+    all : (r : Repertoire) → map (λ kind. kind_named r (name_of kind)) all_kinds ≡ map (λ kind. cond (is_of r kind) (Some kind) None) all_kinds → All (OwnName r) all_kinds
+    all r = maps_same (λ kind. kind_named r (name_of kind)) (λ kind. cond (is_of r kind) (Some kind) None) all_kinds
 
 pub named-own : (repertoire : Repertoire) (text : List ℕ) (kind : Kind) → IsTemplate kind → text ≡ name_of kind → kind_named repertoire text ≡ cond (is_of repertoire kind) (Some kind) None
 named-own repertoire text kind known h = ap (kind_named repertoire) h ∙ own repertoire kind known

@@ -1,6 +1,7 @@
 pub mod Causes
 pub mod Chosen
 pub mod Depths
+mod EachRepertoire
 pub mod Elements
 pub mod Floats
 pub mod ItemsOn

@@ -5,7 +5,7 @@ use Rattle.std.specs.Str.{bytes_eq}
 use Rattle.std.specs.Cmp.Lexicographic.{bytes_decides}
 use Rattle.std.proofs.lemmas.Bool.{eq-eqb}
 use Rattle.std.proofs.lemmas.List.{length-map}
-use Rattle.std.proofs.lemmas.List.Elements.{All-nil, All-cons, All-head, All-map, All-tail}
+use Rattle.std.proofs.lemmas.List.Elements.{All-head, All-map, All-tail}
 use Rattle.std.proofs.lemmas.Option.{unwrap_or-slice_get}
 use Rattle.serde_json.specs.Data.{Data, string, array, depth}
 use Rattle.serde_json.specs.Find.{as_str, get}
@@ -27,10 +27,11 @@ use Rattle.template_set.specs.Names.{name_of}
 use Rattle.scoring.specs.declared.scored.Scored.{Scored}
 use Rattle.reduce_model.specs.Sifting.{Sifting}
 use Rattle.reduce_model.specs.declared.decision.Decision.{Decision}
-use Rattle.model_json.specs.Model.{Item, Known, Shape, IsListed, activities, activities_in, each, is_twice, item_of, item_read, items_read, list_in, listed, model_of, model_of_bytes, only, put_in, repertoire_of, shape_of, tasks_in, texts_in, values_of, within}
+use Rattle.model_json.specs.Model.{Item, Known, IsListed, activities, activities_in, each, is_twice, item_of, item_read, items_read, list_in, listed, model_of, model_of_bytes, only, put_in, repertoire_of, shape_of, texts_in, values_of, within}
 use Rattle.model_json.specs.Report.{IsLineOf, activities_of, consistent_report, model_report, is_tested, name_at, parameter_value, listed_value, scored_value, scores_report, staying, with_witnesses}
 use Rattle.model_json.proofs.Causes.{goes_on}
 use Rattle.model_json.proofs.Chosen.{All-unmap, stay-same}
+use Rattle.model_json.proofs.EachRepertoire.{each_repertoire}
 use Rattle.model_json.proofs.Elements.{shape, shape_of-is, values_of-items_of}
 use Rattle.model_json.proofs.ItemsRead.{fold-activities, is_twice-activities, named-own, one_or_two, put_in-activities, read-constraint, within-few}
 use Rattle.model_json.proofs.KnownModels.{model-items}
@@ -219,19 +220,13 @@ report_back report value scored repertoire names xs list is same known shape_is 
     model-items report (shape (map value xs) names repertoire) shape_is few names (ap within (first_seen-own names known.0.once) ∙ within-few names known.0.few_names)
     ∙ items_back value scored repertoire names known.0.once known.0.few_names is 1 [] xs made of_it ∙ ap (λ l. Ok (record { names = names; constraints = l })) same
 
--- a report of the repertoire that lists these
-of_version : (repertoire : Repertoire) (report : Repertoire → Data) (list : List Data) (names : List (List ℕ)) → shape_of (report First) ≡ Some (shape list names First)
-    → shape_of (report Second) ≡ Some (shape list names Second) → shape_of (report repertoire) ≡ Some (shape list names repertoire)
-of_version First report list names first second = first
-of_version Second report list names first second = second
-
 pub scores_back : (names : List (List ℕ)) (repertoire : Repertoire) (list : List Scored) (traces events : ℕ) → IsListed repertoire names list
     → model_of (scores_report names repertoire list traces events) ≡ Ok (listed names list)
 scores_back names repertoire list traces events known =
     let values = map (scored_value names) list in
     let report : Repertoire → Data = λ repertoire. scores_report names repertoire list traces events in
     report_back (report repertoire) (scored_value names) (λ s. s) repertoire names list list (named_item names) refl known
-    (of_version repertoire report values names (shaped (report First) values names First refl refl refl) (shaped (report Second) values names Second refl refl refl))
+    (each_repertoire (λ r. shape_of (report r) ≡ Some (shape values names r)) (shaped (report First) values names First refl refl refl) (shaped (report Second) values names Second refl refl refl) repertoire)
 
 pub consistent_back : (names : List (List ℕ)) (repertoire : Repertoire) (list : List Scored) (sifting : Sifting) (traces events : ℕ) → IsListed repertoire names (staying list sifting.decisions)
     → model_of (consistent_report names repertoire list sifting traces events) ≡ Ok (listed names (staying list sifting.decisions))
@@ -240,7 +235,7 @@ consistent_back names repertoire list sifting traces events known =
     let values = map (scored_value names) kept in
     let report : Repertoire → Data = λ repertoire. consistent_report names repertoire list sifting traces events in
     report_back (report repertoire) (scored_value names) (λ s. s) repertoire names kept kept (named_item names) refl known
-    (of_version repertoire report values names (shaped (report First) values names First refl refl refl) (shaped (report Second) values names Second refl refl refl))
+    (each_repertoire (λ r. shape_of (report r) ≡ Some (shape values names r)) (shaped (report First) values names First refl refl refl) (shaped (report Second) values names Second refl refl refl) repertoire)
 
 pub model_back : (names : List (List ℕ)) (repertoire : Repertoire) (list : List Scored) (decisions : List Decision) (witnesses : List (List ℕ)) (example : List ℕ) (traces events : ℕ)
     → IsListed repertoire names (staying list decisions) → length witnesses ≡ count_by is_tested decisions
@@ -251,7 +246,7 @@ model_back names repertoire list decisions witnesses example traces events known
     let values = map value kept in
     let report : Repertoire → Data = λ repertoire. model_report names repertoire list decisions witnesses example traces events in
     report_back (report repertoire) value (λ p. p.0) repertoire names kept (staying list decisions) (λ p. listed_item names p.0 p.1) (stay-same list decisions witnesses many) known
-    (of_version repertoire report values names (shaped (report First) values names First refl refl refl) (shaped (report Second) values names Second refl refl refl))
+    (each_repertoire (λ r. shape_of (report r) ≡ Some (shape values names r)) (shaped (report First) values names First refl refl refl) (shaped (report Second) values names Second refl refl refl) repertoire)
 
 -- a line that reads as a value is read as its model
 pub line_back : (value : Data) (text : List ℕ) (model : Known) → IsLineOf value text → depth value ≤ max_depth → model_of value ≡ Ok model → model_of_bytes text ≡ Ok model

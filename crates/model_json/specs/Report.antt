@@ -9,7 +9,7 @@ use Rattle.decl_base.specs.Fraction.{Fraction}
 use Rattle.template_core.specs.Constraints.{arity}
 use Rattle.template_core.specs.declared.constraint.Constraint.{Constraint}
 use Rattle.template_core.specs.declared.repertoire.Repertoire.{Repertoire}
-use Rattle.template_core.specs.declared.repertoire.Repertoire.TheVariants.{First, Second}
+use Rattle.template_core.specs.declared.repertoire.Repertoire.TheVariants.{Second}
 use Rattle.template_set.specs.Names.{name_of}
 use Rattle.model_json.specs.Model.{json_of}
 use Rattle.scoring.specs.declared.scored.Scored.{Scored}

@@ -1,4 +1,4 @@
-use Rattle.std.proofs.Common.{map, codes, sym, ap, ◌∙◌, option_and_then}
+use Rattle.std.proofs.Common.{map, sym, ap, ◌∙◌, option_and_then}
 use Rattle.serde_json.specs.View.{view}
 use Rattle.model_json.specs.Model.{list_in}
 use Rattle.model_json.proofs.Elements.{list_in-is, listed, shape_of-is}

@@ -1,6 +1,6 @@
 -- A run that keeps on at the limit on states prints what one that stops there does, where that has a text.
-use Rattle.std.proofs.Common.{◌≡◌, ℕ, List, Bool, true, false, All, length, refl}
-use Rattle.std.specs.Prelude.{MatchBool, nat_lt}
+use Rattle.std.proofs.Common.{◌≡◌, ℕ, List, All, length, refl}
+use Rattle.std.specs.Prelude.{nat_lt}
 use Rattle.decl_base.specs.Limits.{standard}
 use Rattle.decl_base.specs.declared.refusal.Refusal.TheVariants as refusal
 use Rattle.decl_base.specs.declared.status.Status.{Status}

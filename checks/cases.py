@@ -106,6 +106,7 @@ def random_logs(chance):
     for stage in STAGES:
         words = ["mine", "--stage", stage, *random_thresholds(chance)]
         yield Case("string logs at random", words, text)
+        yield Case("string logs at random, the second repertoire", [*words, "--repertoire=2"], text)
         yield Case("CSV logs at random, ordered by number", words + BY_NUMBER, table)
 
 
@@ -129,6 +130,7 @@ def at_the_limit(log, thresholds):
         for states in sorted({max(1, number - less) for number in most.values() for less in [0, 1]}):
             words = ["mine", "--stage", stage, "--max-states", str(states), *options]
             yield Case("the limit on states", words, as_lines(log))
+            yield Case("keeping on at the limit", [*words, "--on-limit=keep"], as_lines(log))
 
 
 def few_states(chance):

@@ -7,7 +7,6 @@ use decl_base::Refusal;
 use std::alloc::{AllocError, Global};
 use std::test::Fail;
 use template_core::{Constraint, Kind};
-use template_set::arity;
 
 fn one(kind: Kind, first: u32) -> Constraint {
     Constraint {
@@ -25,13 +24,35 @@ fn two(kind: Kind, first: u32, second: u32) -> Constraint {
     }
 }
 
+// No counted template is asked for here.
 fn is_well_made(constraint: &Constraint, symbols: u32) -> bool
     ensures { OnTrue result (IsWellMadeFor symbols constraint.now) }
 {
     let same = constraint.first == constraint.second;
-    constraint.first < symbols
-        && constraint.second < symbols
-        && (arity(constraint.kind) == 1) == same
+    let made = match constraint.kind {
+        Kind::Init | Kind::End | Kind::Participation | Kind::AtMostOne => same,
+        Kind::Exactly { .. } | Kind::AtLeast { .. } | Kind::AtMost { .. } => false,
+        Kind::ChainSuccession
+        | Kind::AlternateSuccession
+        | Kind::Succession
+        | Kind::CoExistence
+        | Kind::ChainResponse
+        | Kind::AlternateResponse
+        | Kind::Response
+        | Kind::ChainPrecedence
+        | Kind::AlternatePrecedence
+        | Kind::Precedence
+        | Kind::RespondedExistence
+        | Kind::NotCoExistence
+        | Kind::NotSuccession
+        | Kind::NotChainSuccession
+        | Kind::NotRespondedExistence
+        | Kind::NotResponse
+        | Kind::NotPrecedence
+        | Kind::NotChainResponse
+        | Kind::NotChainPrecedence => !same,
+    };
+    constraint.first < symbols && constraint.second < symbols && made
 }
 
 // Whether a list may be sifted and reduced.

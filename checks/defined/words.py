@@ -24,6 +24,8 @@ COMMANDS = {
 
 # Those that a command must have.
 NEEDED = ["model"]
+# Commands that read two inputs.
+TWO_INPUTS = ["check"]
 
 # The number that a usage line names. The values of options are tried before all else.
 TWICE_STANDARD_INPUT, TOO_MANY_EVENTS = 17, 18
@@ -166,7 +168,7 @@ def settings(words):
         found[name] = MEANINGS[name](texts[name])
         if found[name] is None:
             raise Refused("Usage", PLACES[name])
-    if found["model"] == found["log"] == "-":
+    if command in TWO_INPUTS and found["model"] == found["log"] == "-":
         raise Refused("Usage", TWICE_STANDARD_INPUT)
     if found["traces"] * found["length"] > EVENTS:
         raise Refused("Usage", TOO_MANY_EVENTS)

@@ -1,4 +1,6 @@
 //! Automata of the templates: their products, the least traces that they accept, and least automata.
+ghost use Rattle.template_core.specs.Constraints.{IsTemplate};
+
 use dfa_core::Dfa;
 use dfa_minimise::least;
 use dfa_product::{Want, first_trace, meet};
@@ -16,7 +18,9 @@ fn narrowed(
     kind: Kind,
     first: u32,
     second: u32,
-) -> Result<Dfa, Fail> {
+) -> Result<Dfa, Fail>
+    requires { IsTemplate kind }
+{
     let table = table_of(kind);
     let constraint = Constraint {
         kind,
@@ -49,7 +53,9 @@ fn least_beside(
     dfa: &Dfa,
     constraint: Constraint,
     want: &[u32],
-) -> Result<(), Fail> {
+) -> Result<(), Fail>
+    requires { IsTemplate constraint.kind }
+{
     let table = table_of(constraint.kind);
     assert!(rt; u64::from(dfa.states()) * u64::from(table.states) < 1 << 32);
     let beside = Want::Beside { table, constraint };

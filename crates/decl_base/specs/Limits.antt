@@ -9,6 +9,7 @@ standard = record {
   line_bytes = 1048576;
   csv_bytes = 134217728;
   model_bytes = 16777216;
+  certificate_bytes = 134217728;
   candidates = 65536;
   states = 16384;
 }

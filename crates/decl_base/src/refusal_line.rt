@@ -26,6 +26,7 @@ pub fn line_of(refusal: &Refusal) -> RefusalLine
         Refusal::RowOrder { row } => {
             numbered("minerful: record ", row, " has no order number\n")
         }
+        Refusal::NoTab { line } => numbered("minerful: line ", line, " has no tab\n"),
         Refusal::NotJson => plain("minerful: the model is not JSON\n"),
         Refusal::ModelShape { at } => {
             numbered("minerful: model shape, constraint ", u64::from(at), "\n")
@@ -50,6 +51,9 @@ pub fn line_of(refusal: &Refusal) -> RefusalLine
                 u64::from(at),
                 "\n",
             )
+        }
+        Refusal::CertShape { part } => {
+            numbered("minerful: certificate shape, part ", u64::from(part), "\n")
         }
         Refusal::LineLong { line } => numbered("minerful: line ", line, " is too long\n"),
         Refusal::Bytes { limit } => numbered("minerful: more than ", limit, " bytes\n"),

@@ -46,7 +46,7 @@ fn names_and_traces_are_made(rt: HostRuntime) -> Result<(), Fail> {
 }
 
 /// One of each.
-fn each_refusal() -> [Refusal; 21] {
+fn each_refusal() -> [Refusal; 23] {
     [
         Refusal::Usage { at: 7 },
         Refusal::NotUtf8 { line: 1 },
@@ -56,11 +56,13 @@ fn each_refusal() -> [Refusal; 21] {
         Refusal::RowOrder {
             row: 18_446_744_073_709_551_615,
         },
+        Refusal::NoTab { line: 2 },
         Refusal::NotJson,
         Refusal::ModelShape { at: 0 },
         Refusal::UnknownTemplate { at: 1 },
         Refusal::Parameters { at: 2 },
         Refusal::SameParameter { at: 4_294_967_295 },
+        Refusal::CertShape { part: 6 },
         Refusal::LineLong { line: 4 },
         Refusal::Bytes { limit: 134_217_728 },
         Refusal::Traces { limit: 1_048_575 },

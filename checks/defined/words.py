@@ -10,28 +10,32 @@ from defined.templates import EXISTENCE, TEMPLATES
 LOG_OPTIONS = ["format", "case-column", "activity-column", "order-column", "order-as"]
 REPORT_OPTIONS = ["support", "confidence", "interest", "max-states", "stage", "out"]
 GEN_OPTIONS = ["seed", "traces", "length", "letters"]
-LATER_OPTIONS = ["repertoire", "on-limit"]
+LATER_OPTIONS = ["repertoire", "on-limit", "first"]
 
 # Of each command its options, and what it takes by its place.
 COMMANDS = {
-    "mine": (LOG_OPTIONS + REPORT_OPTIONS + LATER_OPTIONS, ["log"]),
+    "mine": (LOG_OPTIONS + REPORT_OPTIONS + ["repertoire", "on-limit"], ["log"]),
     "kb": (LOG_OPTIONS, ["log"]),
     "check": (LOG_OPTIONS, ["model", "log"]),
     "gen": (GEN_OPTIONS, []),
     "sample": (["seed"], []),
+    "verify": ([], ["model"]),
+    "monitor": (["max-states"], ["model", "log"]),
+    "compare": (["max-states"], ["model", "second"]),
+    "analyse": (["max-states", "first"], ["model"]),
     "regex": ([], ["model", "word"]),
 }
 
 # Those that a command must have.
-NEEDED = ["model"]
+NEEDED = ["model", "second"]
 # Commands that read two inputs.
-TWO_INPUTS = ["check"]
+TWO_INPUTS = ["check", "monitor", "compare"]
 
 # The number that a usage line names. The values of options are tried before all else.
 TWICE_STANDARD_INPUT, TOO_MANY_EVENTS = 17, 18
 PLACES = {name: place for place, name in enumerate(LOG_OPTIONS + REPORT_OPTIONS + GEN_OPTIONS, 2)}
 PLACES |= {name: place for place, name in enumerate(LATER_OPTIONS, 19)}
-NO_TEMPLATE, NO_WORD = 22, 23
+NO_TEMPLATE, NO_WORD, NO_CERTIFICATE = 22, 23, 24
 
 WORD_CHARACTERS = 64
 
@@ -71,13 +75,14 @@ MEANINGS = {
     "interest": threshold,
     "max-states": whole(1, 65_536),
     "stage": one_of("model", "consistent", "scores"),
-    "out": one_of("json", "table"),
+    "out": one_of("json", "table", "cert"),
     "seed": whole(0, 4_294_967_295),
     "traces": whole(0, TRACES),
     "length": whole(1, 1_000),
     "letters": whole(1, 26),
     "repertoire": one_of("1", "2"),
     "on-limit": one_of("stop", "keep"),
+    "first": whole(0, 20),
 }
 
 # What is taken where it isn't given.
@@ -99,6 +104,7 @@ DEFAULTS = {
     "letters": 4,
     "repertoire": "1",
     "on-limit": "stop",
+    "first": 3,
     "model": "",
     "log": "-",
     "word": None,
@@ -164,6 +170,7 @@ def settings(words):
     command, *rest = words
     texts = Taken(*COMMANDS[command]).all(rest)
     found = DEFAULTS | texts | {"command": command}
+    found["log"] = texts.get("second", found["log"])
     for name in sorted(texts.keys() & PLACES.keys(), key=PLACES.get):
         found[name] = MEANINGS[name](texts[name])
         if found[name] is None:
@@ -172,6 +179,8 @@ def settings(words):
         raise Refused("Usage", TWICE_STANDARD_INPUT)
     if found["traces"] * found["length"] > EVENTS:
         raise Refused("Usage", TOO_MANY_EVENTS)
+    if found["out"] == "cert" and (found["stage"] != "model" or found["on-limit"] == "keep"):
+        raise Refused("Usage", NO_CERTIFICATE)
     if command == "regex":
         try_expression(found["model"], found["word"])
     return found

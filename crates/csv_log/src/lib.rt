@@ -10,8 +10,6 @@ mod places;
 mod read;
 mod records;
 mod row;
-#[cfg(test)]
-mod tests;
 
 pub use laws::{equal_values_keep_their_order, values_ascend};
 pub use log_columns::{Columns, OrderAs};

@@ -4,8 +4,6 @@
 mod alphabet;
 mod laws;
 mod log;
-#[cfg(test)]
-mod tests;
 
 pub use alphabet::Alphabet;
 pub use laws::{sorted_names_are_those_of_the_log, sorted_names_ascend};

@@ -1,5 +1,5 @@
-use crate::{Alphabet, Log};
 use decl_base::Refusal;
+use event_log::{Alphabet, Log};
 use std::test::Fail;
 
 #[test]

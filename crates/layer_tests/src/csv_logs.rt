@@ -1,9 +1,10 @@
 //! What no clause says.
 ghost use Rattle.event_log.specs.Within.{CanCount};
 
-use crate::{Columns, OrderAs, read_csv};
+use csv_log::read_csv;
 use decl_base::{Limits, Name, Refusal};
 use event_log::Alphabet;
+use log_columns::{Columns, OrderAs};
 use std::alloc::Global;
 use std::test::Fail;
 

@@ -2,8 +2,9 @@
 use Rattle.std.proofs.Common.{◌≡◌, inl, inr, ℕ, zero, suc, ◌+◌, ◌-◌, ◌<◌, ◌≤◌, List, [], ◌∷◌, Bool, true, false, ◌||◌, eqb, length, get_or, take, drop, refl, sym, ap, ◌∙◌, arith, length-take-le, length-drop, eq-eqb}
 use Rattle.std.proofs.lemmas.Bool.{cases_eq}
 use Rattle.std.proofs.lemmas.List.{get_or-take, get_or-drop, get_or-map, length-map}
+use Rattle.dfa_core.specs.Automaton.{Automaton, state_count}
 use Rattle.dfa_minimise.specs.Partitions.{IsPartition, IsTidy, is_in, members_of}
-use Rattle.dfa_minimise.specs.Classes.{AreInClass}
+use Rattle.dfa_minimise.specs.Classes.{AreInClass, AreManyApart, IsSound}
 use Rattle.dfa_minimise.specs.declared.refinable.Refinable.{Refinable}
 use Rattle.dfa_minimise.proofs.Splitting.{is_in-place}
 use Rattle.dfa_minimise.proofs.Marking.{eqb_not}
@@ -66,4 +67,18 @@ partition-tidy p t =
       member_class = λ c lc.
           let lc2 : c < length p.first.items = rw len at lc in
           rw (at c lc2) (h.class_order c (get_or p.first.items c 0) lc2 (omega arith) (h.some c lc2));
+    }
+
+-- the states that stand first in their classes are told apart
+pub many-apart : (a : Automaton) (most : ℕ) (p : Refinable) → IsTidy p → length p.class.items ≡ state_count a → IsSound a p.class.items → most < length p.first.items → AreManyApart a most
+many-apart a most p t states sound many =
+    let part = partition-tidy p t in
+    let len : length (members_of p) ≡ length p.first.items = length-map p.first.items (λ f. get_or p.order.items f 0) in
+    let bound : (i : ℕ) → i ≤ most → get_or (members_of p) i 0 < state_count a = λ i le. rw states at (part.member_bound i (omega (arith, len, many, le))) in
+    record {
+      state = λ i. get_or (members_of p) i 0;
+      bound = bound;
+      apart = λ i j less le. sound.apart (get_or (members_of p) i 0) (get_or (members_of p) j 0) (bound i (omega arith)) (bound j le) (λ e.
+          let same : i ≡ j = sym (part.member_class i (omega (arith, len, many, le))) ∙ (e ∙ part.member_class j (omega (arith, len, many, le))) in
+          omega (arith, same, less));
     }

@@ -1,10 +1,11 @@
 -- How many states a least automaton has, and how many traces its language tells apart.
 use Rattle.std.proofs.Common.{◌≡◌, ◌≢◌, ℕ, suc, ◌<◌, ◌≤◌, inl, inr, List, [], ◌∷◌, ◌++◌, Bool, true, false, IsTrue, ◌↔◌, refl, sym, ap, ◌∙◌, arith}
 use Rattle.std.proofs.lemmas.Bool.{cases_eq, cases_lt}
-use Rattle.dfa_core.specs.Automaton.{Automaton, IsWhole, IsBreadthFirst, Accepts, accepts, is_accepting, run, state_count, steps_of}
+use Rattle.dfa_core.specs.Automaton.{Automaton, IsWhole, IsBreadthFirst, IsReachable, Accepts, SameLanguage, accepts, is_accepting, run, state_count, steps_of}
 use Rattle.dfa_core.specs.Traces.{IsTrace}
 use Rattle.dfa_core.proofs.Pigeons.{TakesNoneTwice, le_from_injection}
 use Rattle.dfa_core.proofs.Runs.{run-append, run-bound}
+use Rattle.dfa_minimise.specs.Classes.{AreManyApart}
 use Rattle.dfa_minimise.specs.Least.{IsLeast}
 use Rattle.dfa_minimise.specs.Wide.{TellsApart, IsWide}
 
@@ -38,23 +39,32 @@ both_or_none false true same = same.1 refl
 both_or_none false false same = refl
 
 -- the least traces to two states are told apart by what tells the states apart
-pub wide-from_states : (a : Automaton) (s : ℕ) → IsLeast a → IsBreadthFirst a → s < state_count a → IsWide a.symbols (Accepts a) s
-wide-from_states a s least order lt = record {
-  trace = order.to;
-  over = λ i le. order.over i (omega arith);
+pub wide-from_apart : (a : Automaton) (s : ℕ) → IsBreadthFirst a → AreManyApart a s → IsWide a.symbols (Accepts a) s
+wide-from_apart a s order many = record {
+  trace = λ i. order.to (many.state i);
+  over = λ i le. order.over (many.state i) (many.bound i le);
   apart = λ i j less le.
-      let li : i < state_count a = omega arith in
-      let lj : j < state_count a = omega arith in
-      let t = least.apart i j li lj (λ e. omega (arith, e)) in
+      let p = many.state i in
+      let q = many.state j in
+      let lp : p < state_count a = many.bound i (omega arith) in
+      let lq : q < state_count a = many.bound j le in
+      let t = many.apart i j less le in
       record {
         by = t.by;
         over = t.over;
         differs = λ same. t.differs (
-            ap (is_accepting a) (ap (λ q. run a q t.by) (sym (order.reached i li)) ∙ sym (run-append (steps_of a) a.start (order.to i) t.by))
-            ∙ (both_or_none (accepts a (order.to i ++ t.by)) (accepts a (order.to j ++ t.by)) same ∙ ap (is_accepting a) (run-append (steps_of a) a.start (order.to j) t.by ∙ ap (λ q. run a q t.by) (order.reached j lj)))
+            ap (is_accepting a) (ap (λ r. run a r t.by) (sym (order.reached p lp)) ∙ sym (run-append (steps_of a) a.start (order.to p) t.by))
+            ∙ (both_or_none (accepts a (order.to p ++ t.by)) (accepts a (order.to q ++ t.by)) same ∙ ap (is_accepting a) (run-append (steps_of a) a.start (order.to q) t.by ∙ ap (λ r. run a r t.by) (order.reached q lq)))
             );
       };
 }
+
+pub wide-from_states : (a : Automaton) (s : ℕ) → IsLeast a → IsBreadthFirst a → s < state_count a → IsWide a.symbols (Accepts a) s
+wide-from_states a s least order lt = wide-from_apart a s order (record {
+  state = λ i. i;
+  bound = λ i le. omega arith;
+  apart = λ i j less le. least.apart i j (omega arith) (omega arith) (λ e. omega (arith, e));
+})
 
 trace-append : (n : ℕ) (u v : List ℕ) → IsTrace n u → IsTrace n v → IsTrace n (u ++ v)
 trace-append n [] v tu tv = tv
@@ -79,3 +89,19 @@ wide-same n s P Q same wide = record {
 -- the members of a language that a small automaton accepts
 pub narrow-members : (a : Automaton) (s : ℕ) (P : List ℕ → Type 0) → IsWhole a → ((w : List ℕ) → IsTrace a.symbols w → P w ↔ Accepts a w) → state_count a ≤ s → IsWide a.symbols P s → ⊥
 narrow-members a s P whole same few wide = narrow-few_states a s whole few (wide-same a.symbols s P (Accepts a) same wide)
+
+-- the same over equal numbers of symbols
+pub wide-over : (m n s : ℕ) (P Q : List ℕ → Type 0) → m ≡ n → ((w : List ℕ) → IsTrace n w → P w ↔ Q w) → IsWide n Q s → IsWide m P s
+wide-over m n s P Q e same wide = rw e (wide-same n s Q P (λ w tw. ((same w tw).1, (same w tw).0)) wide)
+
+pub over-wide : (m n s : ℕ) (P Q : List ℕ → Type 0) → m ≡ n → ((w : List ℕ) → IsTrace n w → P w ↔ Q w) → IsWide m P s → IsWide n Q s
+over-wide m n s P Q e same wide = wide-same n s P Q same (rw e at wide)
+
+-- automata of one language accept the same traces
+pub same-accepts : (a b : Automaton) → SameLanguage b a → (w : List ℕ) → IsTrace b.symbols w → Accepts b w ↔ Accepts a w
+same-accepts a b h w tw = let e = h.same w tw in (λ is. sym e ∙ is, λ is. e ∙ is)
+
+-- where states of what is reached are told apart, the language is wide
+pub wide-from_reached : (a b : Automaton) (s : ℕ) → IsReachable (steps_of a) b → AreManyApart b s → IsWide a.symbols (Accepts a) s
+wide-from_reached a b s is many =
+    over-wide b.symbols a.symbols s (Accepts b) (Accepts a) is.over (λ w tw. let e = is.same w tw in (λ yes_. sym e ∙ yes_, λ yes_. e ∙ yes_)) (wide-from_apart b s is.in_order many)

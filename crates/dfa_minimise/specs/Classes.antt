@@ -1,9 +1,10 @@
 -- Internal: which states belong together.
-use Rattle.std.specs.Prelude.{◌≡◌, ℕ, ◌<◌, ◌==◌, List, length, slice_index_or as get_or}
+use Rattle.std.specs.Prelude.{◌≡◌, ℕ, ◌<◌, ◌≤◌, ◌==◌, List, length, slice_index_or as get_or}
 use Rattle.dfa_core.specs.Automaton.{Automaton, IsWhole, is_accepting, state_count, step, step_column}
 use Rattle.dfa_core.specs.Steps.{Steps}
 use Rattle.dfa_minimise.specs.Least.{AreToldApart}
-use Rattle.dfa_minimise.specs.Partitions.{IsPartition, is_in}
+use Rattle.dfa_minimise.specs.Partitions.{IsPartition, IsTidy, is_in, members_of}
+use Rattle.dfa_minimise.specs.declared.refinable.Refinable.{Refinable}
 
 -- States of two classes are told apart, and states of one class accept alike.
 pub record IsSound (a : Automaton) (class : List ℕ) : Type 0 where
@@ -16,6 +17,18 @@ pub record IsEquivalence (a : Automaton) (class members : List ℕ) : Type 0 whe
   pub partition : IsPartition (state_count a) class members
   pub sound : IsSound a class
   pub stable : (q r k : ℕ) → q < state_count a → r < state_count a → k < a.width → get_or class q 0 ≡ get_or class r 0 → get_or class (step_column a q k) 0 ≡ get_or class (step_column a r k) 0
+
+-- there are states of the numbers 0 to most, each two of them told apart
+pub record AreManyApart (a : Automaton) (most : ℕ) : Type 0 where
+  pub state : ℕ → ℕ
+  pub bound : (i : ℕ) → i ≤ most → state i < state_count a
+  pub apart : (i j : ℕ) → i < j → j ≤ most → AreToldApart a (state i) (state j)
+
+-- the classes of all states, of which there are no more than so many
+pub record AreClassesWithin (a : Automaton) (most : ℕ) (p : Refinable) : Type 0 where
+  pub tidy : IsTidy p
+  pub equivalence : IsEquivalence a p.class.items (members_of p)
+  pub few : length p.first.items ≤ most
 
 -- the accepting states
 pub record AreAccepting (a : Automaton) (states : List ℕ) : Type 0 where

@@ -1,7 +1,8 @@
-ghost use Rattle.std.specs.Prelude.{◌≡◌, ◌≤◌, length, IfOk, IfErr};
-ghost use Rattle.dfa_core.specs.Automaton.{IsBreadthFirst, SameLanguage, state_count};
-ghost use Rattle.dfa_minimise.specs.Least.{IsLeast};
+ghost use Rattle.std.specs.Prelude.{◌≡◌, ◌≤◌, length, IfOk, IfErr, MatchOption};
+ghost use Rattle.dfa_core.specs.Automaton.{Accepts, IsBreadthFirst, SameLanguage, state_count};
+ghost use Rattle.dfa_minimise.specs.Least.{IsLeast, IsLeastWithin};
 ghost use Rattle.dfa_minimise.specs.Partitions.{IsTidy};
+ghost use Rattle.dfa_minimise.specs.Wide.{IsWide};
 
 use crate::refinable::Refinable;
 use crate::worklist::equivalent_states;
@@ -18,14 +19,28 @@ pub fn least(alloc: Global, dfa: &Dfa) -> Result<Dfa, Refusal>
     ensures columns { IfOk result (λ r. r.width ≤ dfa.now.width) }
     ensures err { IfErr result (λ e. e ≡ Refusal.Memory) }
 {
+    match least_within(alloc, dfa, dfa.states() as u64)? {
+        Some(least) => Ok(least),
+        None => unreachable!(),
+    }
+}
+
+/// The least automaton of the same language, as `least` gives it, or None where it has more states than the limit. That is found as soon as
+/// more states than the limit are told apart.
+pub fn least_within(alloc: Global, dfa: &Dfa, limit: u64) -> Result<Option<Dfa>, Refusal>
+    ensures ok { IfOk result (λ found. MatchOption found (IsWide dfa.now.symbols (Accepts dfa.now) limit) (IsLeastWithin limit dfa.now)) }
+    ensures err { IfErr result (λ e. e ≡ Refusal.Memory) }
+{
     let reached = reachable(alloc, dfa)?;
-    let partition = equivalent_states(alloc, &reached)?;
+    let Some(partition) = equivalent_states(alloc, &reached, limit)? else {
+        return Ok(None);
+    };
     let quotient = Quotient {
         dfa: &reached,
         partition: &partition,
     };
     let least = reachable(alloc, &quotient)?;
-    Ok(least)
+    Ok(Some(least))
 }
 
 /// An automaton whose states are the classes of another's.

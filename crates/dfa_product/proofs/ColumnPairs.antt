@@ -12,7 +12,7 @@ use Rattle.template_core.specs.declared.class.Class.TheVariants.{First, Second, 
 use Rattle.template_core.specs.declared.constraint.Constraint.{Constraint}
 use Rattle.template_core.specs.declared.table.Table.{Table}
 use Rattle.dfa_product.specs.Pairs.{HasPairsOfColumns, activities}
-use Rattle.dfa_product.specs.SideBySide.{pair_columns, pairs, table_columns, table_steps}
+use Rattle.dfa_product.specs.SideBySide.{complement, pair_columns, pairs, table_columns, table_steps}
 
 -- symbols of one pair of columns lead alike on both sides
 pub columns-pairs : (s t : Steps) (c d : Columns) → t.symbols ≡ s.symbols → AreColumns s c → AreColumns t d → AreColumns (pairs s t) (pair_columns c d)
@@ -26,6 +26,9 @@ columns-pairs s t c d same h k = record {
       let both = same_from_place (c.of x) (d.of x) (c.of y) (d.of y) d.count (k.bound x kx) (k.bound y ky) e in
       rw (h.alike (q / t.states) x y lx ly both.0, k.alike (q % t.states) x y kx ky both.1) refl;
 }
+
+pub columns-complement : (s : Steps) (c : Columns) → AreColumns s c → AreColumns (complement s) c
+columns-complement s c h = record { bound = h.bound; alike = h.alike }
 
 class_column-lt : (class : Class) → class_column class < 3
 class_column-lt First = omega arith

@@ -10,14 +10,14 @@ use Rattle.template_core.specs.Tables.{IsTable, class, keeps_by, table_run, step
 use Rattle.template_core.specs.declared.constraint.Constraint.{Constraint}
 use Rattle.template_core.specs.declared.table.Table.{Table}
 use Rattle.dfa_product.specs.Pairs.{IsIntersection, IsMeet}
-use Rattle.dfa_product.specs.SideBySide.{pairs, table_steps}
-use Rattle.dfa_product.specs.Wanted.{IsWanted}
+use Rattle.dfa_product.specs.SideBySide.{complement, pairs, table_steps}
+use Rattle.dfa_product.specs.Wanted.{IsOutside, IsWanted}
 use Rattle.dfa_product.specs.declared.wanted.Want.TheVariants.{Beside}
 
 -- the start is a state, and each step leads to a state
-record IsClosed (s : Steps) : Type 0 where
-  start_bound : s.start < s.states
-  next_bound : (q x : ℕ) → q < s.states → x < s.symbols → s.next q x < s.states
+pub record IsClosed (s : Steps) : Type 0 where
+  pub start_bound : s.start < s.states
+  pub next_bound : (q x : ℕ) → q < s.states → x < s.symbols → s.next q x < s.states
 
 module _ (s t : Steps) (h : IsClosed t) where
   run-pairs : (q p : ℕ) (w : List ℕ) → p < t.states → IsTrace t.symbols w → run (pairs s t) (q * t.states + p) w ≡ run s q w * t.states + run t p w
@@ -28,7 +28,7 @@ module _ (s t : Steps) (h : IsClosed t) where
   run-below p [] lt tw = lt
   run-below p (x ∷ w) lt tw = run-below (t.next p x) w (h.next_bound p x lt tw.0) tw.1
 
-  accepts-pairs : (w : List ℕ) → IsTrace t.symbols w → accepts (pairs s t) w ≡ (accepts s w && accepts t w)
+  pub accepts-pairs : (w : List ℕ) → IsTrace t.symbols w → accepts (pairs s t) w ≡ (accepts s w && accepts t w)
   accepts-pairs w tw =
       let lt = run-below t.start w h.start_bound tw in
       rw (run-pairs s.start t.start w h.start_bound tw, div-mul-add (run s s.start w) t.states (run t t.start w) lt, mod-mul-add (run s s.start w) t.states (run t t.start w) lt) refl
@@ -84,4 +84,46 @@ found-beside a t c h (Some trace) least = record {
   over = least.over;
   member = beside-accepted a t c h trace least.over least.member;
   none_before = λ w tw is. least.none_before w tw (accepted-beside a t c h w tw is);
+}
+
+-- ---- what another automaton doesn't accept
+
+closed-complement : (a : Automaton) → IsWhole a → IsClosed (complement (steps_of a))
+closed-complement a h = record { start_bound = h.start_bound; next_bound = step_bound a h }
+
+run-complement : (s : Steps) (q : ℕ) (w : List ℕ) → run (complement s) q w ≡ run s q w
+run-complement s q [] = refl
+run-complement s q (x ∷ w) = run-complement s (s.next q x) w
+
+accepts-complement : (s : Steps) (w : List ℕ) → accepts (complement s) w ≡ not (accepts s w)
+accepts-complement s w = ap (complement s).accepting (run-complement s s.start w)
+
+accepts-outside : (a b : Automaton) → IsWhole b → b.symbols ≡ a.symbols → (w : List ℕ) → IsTrace a.symbols w
+    → accepts (pairs (steps_of a) (complement (steps_of b))) w ≡ (accepts (steps_of a) w && not (accepts (steps_of b) w))
+accepts-outside a b h same w tw =
+    let t : IsTrace b.symbols w = rw same tw in
+    accepts-pairs (steps_of a) (complement (steps_of b)) (closed-complement b h) w t ∙ ap (λ (r : Bool). accepts (steps_of a) w && r) (accepts-complement (steps_of b) w)
+
+true_and-not : (x y : Bool) → x ≡ true → (y ≡ true → ⊥) → (x && not y) ≡ true
+true_and-not x true is isnt = absurd (isnt refl)
+true_and-not x false is isnt = rw is refl
+
+outside-accepted : (a b : Automaton) → IsWhole b → b.symbols ≡ a.symbols → (w : List ℕ) → IsTrace a.symbols w
+    → Accepts (pairs (steps_of a) (complement (steps_of b))) w → IsOutside a b w
+outside-accepted a b h same w tw is =
+    let both = and_true (accepts (steps_of a) w) (accepts (steps_of b) w) (sym (accepts-outside a b h same w tw) ∙ is) in
+    let isnt = both.1 in
+    (both.0, λ accepted. absurd (cc (isnt, accepted)))
+
+accepted-outside : (a b : Automaton) → IsWhole b → b.symbols ≡ a.symbols → (w : List ℕ) → IsTrace a.symbols w
+    → IsOutside a b w → Accepts (pairs (steps_of a) (complement (steps_of b))) w
+accepted-outside a b h same w tw is = accepts-outside a b h same w tw ∙ true_and-not (accepts (steps_of a) w) (accepts (steps_of b) w) is.0 is.1
+
+pub found-outside : (a b : Automaton) → IsWhole b → b.symbols ≡ a.symbols → (found : Option (List ℕ))
+    → IsLeastIfAny a.symbols (Accepts (pairs (steps_of a) (complement (steps_of b)))) found → IsLeastIfAny a.symbols (IsOutside a b) found
+found-outside a b h same None none = λ w tw is. none w tw (accepted-outside a b h same w tw is)
+found-outside a b h same (Some trace) least = record {
+  over = least.over;
+  member = outside-accepted a b h same trace least.over least.member;
+  none_before = λ w tw is. least.none_before w tw (accepted-outside a b h same w tw is);
 }

@@ -33,3 +33,7 @@ table_steps n t c keeps = record {
 -- its columns are those of the classes
 abbrev pub table_columns : Constraint → Columns
 table_columns c = record { count = 3; of = λ x. column (class c x) }
+
+-- the traces that aren't accepted
+abbrev pub complement : Steps → Steps
+complement s = record { symbols = s.symbols; states = s.states; start = s.start; next = s.next; accepting = λ q. not (s.accepting q) }

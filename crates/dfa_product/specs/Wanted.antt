@@ -10,6 +10,10 @@ abbrev pub IsWanted : Automaton → Want → List ℕ → Type 0
 IsWanted a Accepted w = Accepts a w
 IsWanted a (Beside t c) w = Accepts a w × (keeps_by t c w ≡ false)
 
+-- all traces that the first automaton accepts and the second doesn't
+abbrev pub IsOutside : Automaton → Automaton → List ℕ → Type 0
+IsOutside first second w = Accepts first w × (Accepts second w → ⊥)
+
 -- a table is whole, and the pairs of its states with the automaton's fit
 abbrev pub FitsStates : Automaton → Want → Type 0
 FitsStates a Accepted = Unit {0}

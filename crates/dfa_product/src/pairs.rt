@@ -115,3 +115,50 @@ impl Columned for TableSteps<'_> {
         }
     }
 }
+
+/// The traces that an automaton doesn't accept.
+#[derive(Drop)]
+pub(crate) struct Complement<'a> {
+    pub dfa: &'a Dfa,
+}
+
+impl System for Complement<'_> {
+    ghost use Rattle.dfa_core.specs.Automaton.{steps_of};
+    ghost use Rattle.dfa_product.specs.SideBySide.{complement};
+
+    ghost steps = { λ c. complement (steps_of c.dfa.now) };
+
+    fn symbols(&self) -> u32 {
+        self.dfa.symbols()
+    }
+
+    fn states(&self) -> u32 {
+        self.dfa.states()
+    }
+
+    fn start(&self) -> u32 {
+        self.dfa.start()
+    }
+
+    fn step(&self, state: u32, symbol: u32) -> u32 {
+        self.dfa.step(state, symbol)
+    }
+
+    fn accepting(&self, state: u32) -> bool {
+        !self.dfa.accepting(state)
+    }
+}
+
+impl Columned for Complement<'_> {
+    ghost use Rattle.dfa_core.specs.Columns.{columns_of};
+
+    ghost columns = { λ c. columns_of c.dfa.now };
+
+    fn columns(&self) -> usize {
+        self.dfa.columns() as usize
+    }
+
+    fn column(&self, symbol: u32) -> usize {
+        self.dfa.column(symbol) as usize
+    }
+}

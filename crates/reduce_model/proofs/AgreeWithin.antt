@@ -6,13 +6,13 @@ use Rattle.dfa_core.specs.Languages.{HasNoMember, IsLeastMember}
 use Rattle.dfa_core.specs.Traces.{IsTrace}
 use Rattle.template_core.specs.Constraints.{IsWellMadeFor}
 use Rattle.template_core.specs.declared.constraint.Constraint.{Constraint}
-use Rattle.reduce_model.proofs.Meaning.{keeps-append, same-traces}
+use Rattle.reduce_model.proofs.Meaning.{same-traces}
+use Rattle.list_dfa.proofs.Keeping.{keeps-append, keeps-push, push-keeps}
 use Rattle.reduce_model.proofs.Reduces.{sift-narrow}
-use Rattle.reduce_model.proofs.Sifts.{keeps-push, push-keeps}
 use Rattle.reduce_model.specs.Building.{AreNarrow, Built, all_but_each, built_in, built_lists, growing, in_phase, tests, up_to_each}
 use Rattle.reduce_model.specs.Deciding.{IsAt, after, as_sifted, before, is_at_limit, is_consistent, is_kept, is_left, is_strongest, marked, those}
 use Rattle.reduce_model.specs.Keeping.{IsKeepable, KeepsAll, KeepsOne}
-use Rattle.reduce_model.specs.Passes.{IsNarrowList}
+use Rattle.list_dfa.specs.Lists.{IsNarrowList}
 use Rattle.reduce_model.specs.Reduction.{AreWitnesses, Breaks, Implies, IsReduction, Reduction}
 use Rattle.reduce_model.specs.Sifting.{IsNarrow, IsSift, IsSifted, Sifting, kept_of}
 use Rattle.reduce_model.specs.Within.{AreWitnessesWithin, IsClosed, IsFirstPassedWithin, IsReducedWithin, IsReductionWithin, IsSecondPassedWithin, IsSiftWithin, IsSiftedWithin, IsWideList, TellsUntested}

@@ -1,7 +1,7 @@
 -- The laws of the reduction.
 use Rattle.std.proofs.Common.{◌≡◌, ◌⊎◌, ℕ, zero, suc, ◌<◌, inl, inr, List, [], ◌∷◌, ◌++◌, true, false, Some, length, map, take, drop, get_or, refl, sym, ap, ◌∙◌, subst, append_assoc}
 use Rattle.std.specs.List.{All, slice_get}
-use Rattle.std.proofs.lemmas.List.{append-nil}
+use Rattle.std.proofs.lemmas.List.{append-nil, get_or-map}
 use Rattle.std.proofs.lemmas.Option.{get_or_from_slice_get, slice_get_within}
 use Rattle.decl_base.specs.declared.refusal.Refusal.TheVariants.{States}
 use Rattle.dfa_core.proofs.Shortlex.{before_total}
@@ -11,7 +11,8 @@ use Rattle.template_core.specs.Constraints.{IsWellMadeFor}
 use Rattle.template_core.specs.declared.constraint.Constraint.{Constraint}
 use Rattle.reduce_model.proofs.Determined.{conflict-lacks, reduced_unique, told-at}
 use Rattle.reduce_model.proofs.Lists.{first-not_narrow}
-use Rattle.reduce_model.proofs.Marks.{anything, true_or_false}
+use Rattle.reduce_model.proofs.Marks.{true_or_false}
+use Rattle.list_dfa.proofs.Keeping.{anything}
 use Rattle.reduce_model.proofs.Meaning.{keeps-at, same-traces}
 use Rattle.reduce_model.specs.Building.{built_lists}
 use Rattle.reduce_model.specs.Deciding.{IsAt, before, is_consistent, is_kept, those}
@@ -19,7 +20,6 @@ use Rattle.reduce_model.specs.Keeping.{IsKeepable, KeepsAll}
 use Rattle.reduce_model.specs.Reduction.{AreWitnesses, Breaks, Implies, IsReduced, IsReduction, Reduction, RefusesReduction}
 use Rattle.reduce_model.specs.declared.decision.Decision.{Decision}
 use Rattle.reduce_model.specs.declared.decision.Decision.TheVariants.{Kept}
-use Rattle.std.proofs.lemmas.List.{get_or-map}
 
 pub keepable : (n s : ℕ) (list : List Constraint) (reduction : Reduction) → IsReduction n s list reduction → IsKeepable n (those is_kept list reduction.decisions)
 keepable n s list reduction h = record {

@@ -6,7 +6,8 @@ use Rattle.std.proofs.lemmas.Option.{get_or_from_slice_get, slice_get_within}
 use Rattle.std.proofs.lemmas.List.{ext_get_or, get_or-map, length-map, take_all}
 use Rattle.dfa_core.specs.Languages.{HasNoMember}
 use Rattle.template_core.specs.declared.constraint.Constraint.{Constraint}
-use Rattle.reduce_model.proofs.Marks.{Agree, IsBackward, IsForward, anything, at_place, backward_same, forward_same, lacks, tells, true_or_false}
+use Rattle.reduce_model.proofs.Marks.{Agree, IsBackward, IsForward, at_place, backward_same, forward_same, lacks, tells, true_or_false}
+use Rattle.list_dfa.proofs.Keeping.{anything}
 use Rattle.reduce_model.specs.Deciding.{as_sifted, is_at_limit, is_consistent, is_kept, is_left, is_strongest, marked}
 use Rattle.reduce_model.specs.Keeping.{KeepsAll}
 use Rattle.reduce_model.specs.Reduction.{Implies, IsFirstAbove, IsReduced, TellsConflicts, TellsFirstPass, TellsSecondPass, TellsWeaker}

@@ -5,7 +5,7 @@ use Rattle.dfa_core.specs.Languages.{IsLeastMember}
 use Rattle.template_core.specs.declared.constraint.Constraint.{Constraint}
 use Rattle.reduce_model.proofs.Consequences.{least_unique, three-same}
 use Rattle.reduce_model.proofs.Determined.{decision_same, same-mark, strongest_same, weaker_same}
-use Rattle.reduce_model.proofs.Marks.{anything}
+use Rattle.list_dfa.proofs.Keeping.{anything}
 use Rattle.reduce_model.proofs.MeaningWithin.{within-many}
 use Rattle.reduce_model.proofs.Reduces.{consistent-pruning}
 use Rattle.reduce_model.proofs.Writes.{map-map_same, view_same}

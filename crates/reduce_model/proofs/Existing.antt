@@ -5,7 +5,8 @@ use Rattle.std.proofs.lemmas.Bool.{cases_eq, cases_lt}
 use Rattle.std.proofs.lemmas.List.{drop-set-lt, ext_get_or, get_or-map, get_or_append_left, get_or_push, length-map, length-set, length_push, take-append-le, take_all}
 use Rattle.template_core.specs.declared.constraint.Constraint.{Constraint}
 use Rattle.reduce_model.proofs.Determined.{Always, Conflicts, ImpliesWith, backward_second_pass, forward_conflicts, forward_first_pass}
-use Rattle.reduce_model.proofs.Marks.{IsBackward, IsForward, anything, true_or_false}
+use Rattle.reduce_model.proofs.Marks.{IsBackward, IsForward, true_or_false}
+use Rattle.list_dfa.proofs.Keeping.{anything}
 use Rattle.reduce_model.proofs.Prunes.{above-within}
 use Rattle.reduce_model.proofs.Writes.{first_above-unique, weaker-tells}
 use Rattle.reduce_model.specs.Deciding.{is_at_limit, is_consistent, is_kept, is_left, is_strongest, marked}

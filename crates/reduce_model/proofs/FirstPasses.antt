@@ -1,5 +1,5 @@
 -- The first pass that goes on by one candidate.
-use Rattle.std.proofs.Common.{◌≡◌, ◌≢◌, ◌↔◌, ℕ, zero, suc, ◌+◌, ◌<◌, ◌≤◌, inl, inr, List, [], ◌∷◌, ◌++◌, Bool, true, false, length, map, take, drop, get_or, set, refl, sym, ap, ◌∙◌, arith, add-one, drop-cons, get_or-set_same, get_or-set_other}
+use Rattle.std.proofs.Common.{◌≡◌, ◌≢◌, ◌↔◌, ℕ, suc, ◌+◌, ◌<◌, ◌≤◌, inl, inr, List, [], ◌∷◌, ◌++◌, Bool, true, false, length, map, take, drop, get_or, set, refl, sym, ap, ◌∙◌, arith, add-one, drop-cons, get_or-set_same, get_or-set_other}
 use Rattle.std.proofs.lemmas.Bool.{cases_lt, cases_eq}
 use Rattle.std.proofs.lemmas.List.{append-nil, get_or-map, length-map, length-set, length_push, map-set, take_all, take-append-le, take-set-le}
 use Rattle.std.proofs.lemmas.List.Elements.{All-cons, All-nil}
@@ -10,16 +10,20 @@ use Rattle.dfa_minimise.specs.Wide.{IsWide}
 use Rattle.template_core.specs.declared.constraint.Constraint.{Constraint}
 use Rattle.reduce_model.proofs.Determined.{Has, first_pass_forward, forward_first_pass, left_same_below}
 use Rattle.reduce_model.proofs.Lists.{phase-narrow, up-first, up-narrow}
-use Rattle.reduce_model.proofs.Marks.{IsForward, anything, true_or_false}
-use Rattle.reduce_model.proofs.Members.{keeps-stable, over-wide, wide-over}
+use Rattle.reduce_model.proofs.Marks.{IsForward, true_or_false}
+use Rattle.list_dfa.proofs.Keeping.{anything, keeps-push, push-keeps}
+use Rattle.reduce_model.proofs.Members.{keeps-stable}
+use Rattle.dfa_minimise.proofs.Widths.{over-wide, wide-over}
 use Rattle.reduce_model.proofs.KeptPrefixes.{AreKeptUpTo, IsPrefixUpTo}
-use Rattle.reduce_model.proofs.Sifts.{empty-narrow, keeps-push, length-take_le, push-keeps}
+use Rattle.reduce_model.proofs.Sifts.{length-take_le}
+use Rattle.list_dfa.proofs.Listing.{empty-narrow, take-nil, every-automaton}
 use Rattle.reduce_model.proofs.Writes.{fixed-at, fixed-fixed, map-set_same, marked-next, marked-split, view_same}
 use Rattle.reduce_model.specs.Building.{IsFirstOfWide, in_phase, up_to_each}
 use Rattle.reduce_model.specs.Deciding.{is_kept, is_left, is_strongest, marked, those}
-use Rattle.reduce_model.specs.Joining.{AcceptsBroken, AcceptsKept, Extends}
+use Rattle.list_dfa.specs.Extending.{AcceptsBroken, AcceptsKept, Extends}
 use Rattle.reduce_model.specs.Keeping.{KeepsAll}
-use Rattle.reduce_model.specs.Passes.{IsAutomatonOf, IsFirstPassed, IsNarrowList, before_first_pass, before_second_pass}
+use Rattle.reduce_model.specs.Passes.{IsFirstPassed, before_first_pass, before_second_pass}
+use Rattle.list_dfa.specs.Lists.{IsAutomatonOf, IsNarrowList}
 use Rattle.reduce_model.specs.Reduction.{Breaks, Implies, TellsFirstPass}
 use Rattle.reduce_model.specs.declared.decision.Decision.{Decision}
 use Rattle.reduce_model.specs.declared.decision.Decision.TheVariants.{Kept, Conflict, Weaker, FirstPass, SecondPass, Beyond, Untested}
@@ -67,17 +71,6 @@ passes-passes FirstPass = refl
 passes-passes SecondPass = refl
 passes-passes Beyond = refl
 passes-passes Untested = refl
-
-pub take-nil : (size : ℕ) → let none : List Constraint = [] in take size none ≡ []
-take-nil zero = refl
-take-nil (suc size) = refl
-
-pub every-automaton : (n : ℕ) (a : Automaton) → IsEverything n a → IsAutomatonOf n [] a
-every-automaton n a e = record {
-  over = e.over;
-  same = λ w tw. (λ is. tt, λ all. e.accepts_all w tw);
-  few = let one = e.one_state in omega (arith, one);
-}
 
 pub passing-none : (n s : ℕ) (list : List Constraint) (old : List Decision) (left : Automaton) (size : ℕ) → length old ≡ length list → 1 ≤ s → map before_first_pass old ≡ old → IsEverything n left → size ≡ 0
     → IsPassing n s list old old 0 left size

@@ -7,16 +7,18 @@ use Rattle.dfa_core.specs.Languages.{HasNoMember}
 use Rattle.dfa_core.specs.Traces.{IsTrace}
 use Rattle.dfa_minimise.specs.Wide.{IsWide}
 use Rattle.template_core.specs.declared.constraint.Constraint.{Constraint}
-use Rattle.reduce_model.proofs.FirstPasses.{before-has, before-lacks, every-automaton, fresh-tested, is-kept, left_before, length-marked, narrow-push, none-implies, not-strongest, take-nil}
+use Rattle.reduce_model.proofs.FirstPasses.{before-has, before-lacks, fresh-tested, is-kept, left_before, length-marked, narrow-push, none-implies, not-strongest}
+use Rattle.list_dfa.proofs.Listing.{every-automaton, take-nil, empty-narrow}
 use Rattle.reduce_model.proofs.KeptPrefixes.{AreKeptUpTo, IsPrefixUpTo, kept-end, kept-later}
-use Rattle.reduce_model.proofs.Marks.{anything}
-use Rattle.reduce_model.proofs.Members.{over-wide, wide-over}
-use Rattle.reduce_model.proofs.Sifts.{empty-narrow, keeps-push, length-take_le, push-keeps}
+use Rattle.list_dfa.proofs.Keeping.{anything, keeps-push, push-keeps}
+use Rattle.dfa_minimise.proofs.Widths.{over-wide, wide-over}
+use Rattle.reduce_model.proofs.Sifts.{length-take_le}
 use Rattle.reduce_model.proofs.Writes.{fixed-at, marked-split}
 use Rattle.reduce_model.specs.Deciding.{is_kept, is_left, marked}
-use Rattle.reduce_model.specs.Joining.{AcceptsBroken, AcceptsKept, Extends}
+use Rattle.list_dfa.specs.Extending.{AcceptsBroken, AcceptsKept, Extends}
 use Rattle.reduce_model.specs.Keeping.{KeepsAll}
-use Rattle.reduce_model.specs.Passes.{AreClosedPast, IsAutomatonOf, IsFirstPassedOf, IsNarrowList, before_first_pass, before_second_pass}
+use Rattle.reduce_model.specs.Passes.{AreClosedPast, IsFirstPassedOf, before_first_pass, before_second_pass}
+use Rattle.list_dfa.specs.Lists.{IsAutomatonOf, IsNarrowList}
 use Rattle.reduce_model.specs.Reduction.{Breaks, Implies}
 use Rattle.reduce_model.specs.Within.{IsClosed, IsFirstPassedWithin, IsWideList}
 use Rattle.reduce_model.specs.declared.decision.Decision.{Decision}

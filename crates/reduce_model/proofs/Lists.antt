@@ -8,7 +8,7 @@ use Rattle.template_core.specs.declared.constraint.Constraint.{Constraint}
 use Rattle.reduce_model.specs.Building.{AreNarrow, Built, IsFirstOfWide, all_but_each, built_in, growing, in_phase, tests, up_to_each}
 use Rattle.reduce_model.specs.Deciding.{is_kept, is_left, those}
 use Rattle.reduce_model.specs.Keeping.{KeepsAll}
-use Rattle.reduce_model.specs.Passes.{IsFirstPrefix, IsNarrowList}
+use Rattle.list_dfa.specs.Lists.{IsFirstPrefix, IsNarrowList}
 use Rattle.reduce_model.specs.declared.decision.Decision.{Decision}
 use Rattle.reduce_model.specs.declared.decision.Decision.TheVariants.{Kept, Conflict, Weaker, FirstPass, SecondPass, Beyond, Untested}
 

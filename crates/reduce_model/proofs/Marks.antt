@@ -3,18 +3,10 @@ use Rattle.std.proofs.Common.{◌≡◌, ◌↔◌, ◌⊎◌, ℕ, zero, suc, �
 use Rattle.std.proofs.lemmas.List.{drop_all, get_or-map, take_more_same}
 use Rattle.std.proofs.lemmas.Option.{get_or_from_slice_get, slice_get-get_or, slice_get_within}
 use Rattle.template_core.specs.declared.constraint.Constraint.{Constraint}
-use Rattle.template_core.specs.declared.kind.Kind.TheVariants.{Init}
 use Rattle.reduce_model.specs.Deciding.{IsAt, marked}
 use Rattle.reduce_model.specs.declared.decision.Decision.{Decision}
 use Rattle.reduce_model.specs.declared.decision.Decision.TheVariants.{Kept}
-
--- what a read past the end of the candidates would give
-abbrev pub anything : Constraint
-anything = record {
-  kind = Init;
-  first = 0;
-  second = 0;
-}
+use Rattle.list_dfa.proofs.Keeping.{anything}
 
 pub false_same : (a b : Bool) → (a ≡ false ↔ b ≡ false) → a ≡ b
 false_same true true h = refl

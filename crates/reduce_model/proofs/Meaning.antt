@@ -12,9 +12,9 @@ use Rattle.template_set.proofs.Rows.{keeps_below, strict}
 use Rattle.template_set.specs.Hierarchy.{IsStronger}
 use Rattle.template_set.specs.Hierarchy.IsStronger.{directly, through}
 use Rattle.reduce_model.proofs.FirstPasses.{before-has, before-lacks, none-implies}
-use Rattle.reduce_model.proofs.Marks.{anything, at_place, true_or_false}
+use Rattle.reduce_model.proofs.Marks.{at_place, true_or_false}
+use Rattle.list_dfa.proofs.Keeping.{anything, push-keeps, keeps-append}
 use Rattle.reduce_model.proofs.Prunes.{above-here, here-above}
-use Rattle.reduce_model.proofs.Sifts.{push-keeps}
 use Rattle.reduce_model.proofs.Writes.{marked-split}
 use Rattle.reduce_model.specs.Deciding.{is_consistent, is_kept, is_left, is_strongest, marked, those}
 use Rattle.reduce_model.specs.Keeping.{KeepsAll, KeepsOne}
@@ -24,10 +24,6 @@ use Rattle.reduce_model.specs.declared.decision.Decision.{Decision}
 use Rattle.reduce_model.specs.declared.decision.Decision.TheVariants.{Kept, Conflict, Weaker, FirstPass, SecondPass, Beyond, Untested}
 
 -- ---- which of a list a trace keeps
-
-pub keeps-append : (xs ys : List Constraint) (w : List ℕ) → KeepsAll (xs ++ ys) w ↔ KeepsAll xs w × KeepsAll ys w
-keeps-append [] ys w = (λ all. (tt, all), λ both. both.1)
-keeps-append (x ∷ xs) ys w = let ih = keeps-append xs ys w in (λ all. let parts = ih.0 all.1 in ((all.0, parts.0), parts.1), λ both. (both.0.0, ih.1 (both.0.1, both.1)))
 
 -- one that has the mark
 pub keeps-at : (marks : List Bool) (list : List Constraint) (w : List ℕ) (place : ℕ) → KeepsAll (marked marks list) w → place < length list → get_or marks place false ≡ true → KeepsOne (get_or list place anything) w

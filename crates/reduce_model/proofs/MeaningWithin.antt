@@ -7,9 +7,9 @@ use Rattle.dfa_core.specs.Languages.{HasNoMember}
 use Rattle.dfa_core.specs.Traces.{IsTrace}
 use Rattle.template_core.specs.Constraints.{IsWellMadeFor}
 use Rattle.template_core.specs.declared.constraint.Constraint.{Constraint}
-use Rattle.reduce_model.proofs.Marks.{anything, true_or_false}
-use Rattle.reduce_model.proofs.Meaning.{consistent-model, keeps-append, keeps-at, mark, strongest-consistent}
-use Rattle.reduce_model.proofs.Sifts.{push-keeps}
+use Rattle.reduce_model.proofs.Marks.{true_or_false}
+use Rattle.list_dfa.proofs.Keeping.{anything, keeps-append, push-keeps}
+use Rattle.reduce_model.proofs.Meaning.{consistent-model, keeps-at, mark, strongest-consistent}
 use Rattle.reduce_model.proofs.Writes.{map-map_same}
 use Rattle.reduce_model.specs.Deciding.{IsAt, after, as_sifted, before, is_consistent, is_kept, is_left, is_strongest, marked, those}
 use Rattle.reduce_model.specs.Keeping.{IsKeepable, KeepsAll}

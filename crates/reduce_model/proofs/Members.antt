@@ -2,8 +2,6 @@
 use Rattle.std.proofs.Common.{◌≡◌, ◌↔◌, ℕ, inl, inr, List, nat_eq}
 use Rattle.dfa_core.specs.Languages.{IsLeastMember}
 use Rattle.dfa_core.specs.Traces.{IsTrace}
-use Rattle.dfa_minimise.proofs.Widths.{wide-same}
-use Rattle.dfa_minimise.specs.Wide.{IsWide}
 use Rattle.template_core.proofs.KeepsTest.{Keeps-keeps}
 use Rattle.template_core.specs.Repertoire.{keeps}
 use Rattle.template_core.specs.declared.constraint.Constraint.{Constraint}
@@ -18,12 +16,6 @@ least-same m n P Q t e same least =
       member = (same t over).0 least.member;
       none_before = λ w tw is before. least.none_before w (rw e tw) ((same w tw).1 is) before;
     }
-
-pub wide-over : (m n s : ℕ) (P Q : List ℕ → Type 0) → m ≡ n → ((w : List ℕ) → IsTrace n w → P w ↔ Q w) → IsWide n Q s → IsWide m P s
-wide-over m n s P Q e same wide = rw e (wide-same n s Q P (λ w tw. ((same w tw).1, (same w tw).0)) wide)
-
-pub over-wide : (m n s : ℕ) (P Q : List ℕ → Type 0) → m ≡ n → ((w : List ℕ) → IsTrace n w → P w ↔ Q w) → IsWide m P s → IsWide n Q s
-over-wide m n s P Q e same wide = wide-same n s P Q same (rw e at wide)
 
 -- a trace that can't break a constraint keeps it
 pub keeps-stable : (c : Constraint) (w : List ℕ) → ((KeepsOne c w → ⊥) → ⊥) → KeepsOne c w

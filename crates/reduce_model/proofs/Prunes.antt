@@ -4,7 +4,7 @@ use Rattle.std.proofs.lemmas.Bool.{cases_lt, cases_eq}
 use Rattle.std.proofs.lemmas.List.{get_or-map, length-map, length-set, map-set}
 use Rattle.std.proofs.lemmas.Option.{get_or_from_slice_get, slice_get-get_or, slice_get_within}
 use Rattle.template_core.specs.declared.constraint.Constraint.{Constraint}
-use Rattle.reduce_model.proofs.Marks.{anything}
+use Rattle.list_dfa.proofs.Keeping.{anything}
 use Rattle.reduce_model.proofs.Writes.{WeakerAt, first_above-unique, fixed-at, fixed-fixed, map-set_same, weaker-tells}
 use Rattle.reduce_model.specs.Deciding.{as_sifted, is_consistent}
 use Rattle.reduce_model.specs.Passes.{IsPruned, before_first_pass}

@@ -11,16 +11,18 @@ use Rattle.template_core.specs.Constraints.{IsWellMadeFor}
 use Rattle.template_core.specs.declared.constraint.Constraint.{Constraint}
 use Rattle.reduce_model.proofs.Determined.{Always, Conflicts, conflicts_forward, consistent_same, first_pass_forward, forward_conflicts, forward_first_pass, left_same, reduced_unique, strongest_same}
 use Rattle.reduce_model.proofs.Lists.{first-here, first-skip, narrow-append, phase-narrow, up-first, up-narrow}
-use Rattle.reduce_model.proofs.Marks.{IsForward, anything, forward_same}
+use Rattle.reduce_model.proofs.Marks.{IsForward, forward_same}
+use Rattle.list_dfa.proofs.Keeping.{anything}
 use Rattle.reduce_model.proofs.Meaning.{irredundant, same-traces}
 use Rattle.reduce_model.proofs.Members.{least-same}
 use Rattle.reduce_model.proofs.SecondPasses.{fixed-tested}
-use Rattle.reduce_model.proofs.Sifts.{empty-narrow}
+use Rattle.list_dfa.proofs.Listing.{empty-narrow}
 use Rattle.reduce_model.proofs.Writes.{marked-split, tells-weaker, view_same, weaker-tells}
 use Rattle.reduce_model.specs.Building.{AreNarrow, Built, IsFirstOfWide, all_but_each, built_lists, in_phase, tests, up_to_each}
 use Rattle.reduce_model.specs.Deciding.{as_sifted, is_at_limit, is_consistent, is_kept, is_left, is_strongest, marked, those}
 use Rattle.reduce_model.specs.Keeping.{KeepsAll}
-use Rattle.reduce_model.specs.Passes.{IsFirstPassed, IsIrredundant, IsNarrowList, IsPruned, IsSecondPassed, IsWitnessed, RefusesFirstPass, RefusesSecondPass, RefusesWitnesses, before_first_pass, before_second_pass}
+use Rattle.reduce_model.specs.Passes.{IsFirstPassed, IsIrredundant, IsPruned, IsSecondPassed, IsWitnessed, RefusesFirstPass, RefusesSecondPass, RefusesWitnesses, before_first_pass, before_second_pass}
+use Rattle.list_dfa.specs.Lists.{IsNarrowList}
 use Rattle.reduce_model.specs.Reduction.{IsReduced, IsReduction, RefusesReduction, TellsConflicts, TellsFirstPass, TellsWeaker}
 use Rattle.reduce_model.specs.Sifting.{IsFirstWide, IsNarrow, IsSifted, RefusesSift, kept_of}
 use Rattle.reduce_model.specs.declared.decision.Decision.{Decision}

@@ -10,11 +10,13 @@ use Rattle.reduce_model.proofs.Determined.{Has, ImpliesWith, backward_second_pas
 use Rattle.reduce_model.proofs.FirstPasses.{before-has, before-lacks, fresh-tested, is-kept, left_before, length-marked, none-implies}
 use Rattle.reduce_model.proofs.Grows.{sought}
 use Rattle.reduce_model.proofs.Lists.{all-append, phase-first, phase-narrow, tests-split}
-use Rattle.reduce_model.proofs.Marks.{IsBackward, anything}
+use Rattle.reduce_model.proofs.Marks.{IsBackward}
+use Rattle.list_dfa.proofs.Keeping.{anything}
 use Rattle.reduce_model.proofs.Writes.{fixed-at, map-set_same, marked-split, take-ext, view_same}
 use Rattle.reduce_model.specs.Building.{IsFirstOfWide, in_phase, tests}
 use Rattle.reduce_model.specs.Deciding.{after, before, is_kept, is_left, marked, those}
-use Rattle.reduce_model.specs.Passes.{AreFirstWitnesses, IsFirstPrefix, IsNarrowList, IsPrefixOf, IsSecondPassed, IsSought, IsSoughtFrom, before_second_pass}
+use Rattle.reduce_model.specs.Passes.{AreFirstWitnesses, IsPrefixOf, IsSecondPassed, IsSought, IsSoughtFrom, before_second_pass}
+use Rattle.list_dfa.specs.Lists.{IsFirstPrefix, IsNarrowList}
 use Rattle.reduce_model.specs.Reduction.{Breaks, TellsSecondPass}
 use Rattle.reduce_model.specs.declared.decision.Decision.{Decision}
 use Rattle.reduce_model.specs.declared.decision.Decision.TheVariants.{Kept, Conflict, Weaker, FirstPass, SecondPass, Beyond, Untested}

@@ -4,10 +4,11 @@ use Rattle.std.proofs.lemmas.List.{drop-set-lt, drop_all, length-set, map-set, t
 use Rattle.dfa_core.specs.Languages.{HasNoMember, IsLeastMember}
 use Rattle.template_core.specs.declared.constraint.Constraint.{Constraint}
 use Rattle.reduce_model.proofs.FirstPasses.{left_before, none-implies}
-use Rattle.reduce_model.proofs.Marks.{anything}
+use Rattle.list_dfa.proofs.Keeping.{anything}
 use Rattle.reduce_model.proofs.SecondPasses.{IsGoingBack, going-none, going-on, going-write, has_left, in_new, is, kept-is-left, left_old, longer, others, past-list, those_after, was}
 use Rattle.reduce_model.specs.Deciding.{after, before, is_kept, is_left, marked, those}
-use Rattle.reduce_model.specs.Passes.{AreClosedPast, IsFirstPrefix, IsNarrowList, IsSecondPassedTo, IsSought, IsTestedWithin, before_second_pass}
+use Rattle.reduce_model.specs.Passes.{AreClosedPast, IsSecondPassedTo, IsSought, IsTestedWithin, before_second_pass}
+use Rattle.list_dfa.specs.Lists.{IsFirstPrefix, IsNarrowList}
 use Rattle.reduce_model.specs.Reduction.{Breaks, Implies}
 use Rattle.reduce_model.specs.Within.{IsClosed}
 use Rattle.reduce_model.specs.declared.decision.Decision.{Decision}

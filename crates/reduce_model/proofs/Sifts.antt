@@ -8,23 +8,19 @@ use Rattle.dfa_core.specs.Shortlex.{IsBefore}
 use Rattle.dfa_core.specs.Traces.{IsTrace}
 use Rattle.dfa_minimise.specs.Wide.{IsWide}
 use Rattle.template_core.specs.declared.constraint.Constraint.{Constraint}
-use Rattle.reduce_model.proofs.Members.{keeps-stable, least-same, over-wide, wide-over}
-use Rattle.reduce_model.specs.Joining.{AcceptsBroken, AcceptsKept, IsTooWide, JoinsKept}
-use Rattle.reduce_model.specs.Keeping.{KeepsAll, KeepsOne, IsKeepable}
+use Rattle.reduce_model.proofs.Members.{keeps-stable, least-same}
+use Rattle.dfa_minimise.proofs.Widths.{over-wide, wide-over}
+use Rattle.reduce_model.specs.Joining.{IsTooWide, JoinsKept}
+use Rattle.list_dfa.specs.Extending.{AcceptsBroken, AcceptsKept}
+use Rattle.reduce_model.specs.Keeping.{KeepsAll, IsKeepable}
 use Rattle.reduce_model.specs.Sifting.{IsFirstWide, IsKeptAfter, IsSift, IsSifted, Sifting, kept_of}
 use Rattle.reduce_model.specs.declared.decision.Decision.{Decision}
 use Rattle.reduce_model.specs.declared.decision.Decision.TheVariants.{Kept, Conflict}
 use Rattle.reduce_model.specs.declared.kept.KeptList.{KeptList}
+use Rattle.list_dfa.proofs.Keeping.{push-keeps, keeps-push}
+use Rattle.list_dfa.proofs.Listing.{empty-narrow}
 
 -- ---- a list with one more constraint
-
-pub push-keeps : (xs : List Constraint) (c : Constraint) (w : List ℕ) → KeepsAll xs w → KeepsOne c w → KeepsAll (xs ++ c ∷ []) w
-push-keeps [] c w all one = (one, tt)
-push-keeps (x ∷ xs) c w all one = (all.0, push-keeps xs c w all.1 one)
-
-pub keeps-push : (xs : List Constraint) (c : Constraint) (w : List ℕ) → KeepsAll (xs ++ c ∷ []) w → KeepsAll xs w × KeepsOne c w
-keeps-push [] c w all = (tt, all.0)
-keeps-push (x ∷ xs) c w all = let rest = keeps-push xs c w all.1 in ((all.0, rest.0), rest.1)
 
 kept_of-push : (n : ℕ) (kept xs : List Constraint) (ds : List Decision) (c : Constraint) → IsSifted n kept xs ds → kept_of (xs ++ c ∷ []) (ds ++ Kept ∷ []) ≡ kept_of xs ds ++ c ∷ []
 kept_of-push n kept [] [] c h = refl
@@ -114,10 +110,6 @@ no_before_nil : (w : List ℕ) → IsBefore w [] → ⊥
 no_before_nil w (inl lt) = omega (arith, lt)
 no_before_nil [] (inr p) = p.1
 no_before_nil (x ∷ w) (inr p) = p.1
-
--- the empty list tells nothing apart
-pub empty-narrow : (n s : ℕ) → 1 ≤ s → IsWide n (KeepsAll []) s → ⊥
-empty-narrow n s some wide = let t = wide.apart 0 1 (omega arith) some in t.differs (λ is. tt, λ is. tt)
 
 pub carried-none : (n s : ℕ) (carried : KeptList) → 1 ≤ s → IsEverything n carried.dfa → carried.length ≡ 0 → carried.example ≡ [] → IsCarried n s [] carried
 carried-none n s carried some every none empty = record {

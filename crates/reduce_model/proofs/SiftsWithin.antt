@@ -5,10 +5,13 @@ use Rattle.dfa_core.specs.Automaton.{IsEverything}
 use Rattle.dfa_core.specs.Languages.{HasNoMember, IsLeastMember}
 use Rattle.dfa_core.specs.Traces.{IsTrace}
 use Rattle.template_core.specs.declared.constraint.Constraint.{Constraint}
-use Rattle.reduce_model.proofs.Marks.{anything}
-use Rattle.reduce_model.proofs.Members.{least-same, over-wide, wide-over}
-use Rattle.reduce_model.proofs.Sifts.{IsCarried, carried-more, carried-none, empty-narrow, implied-joins, same-more}
-use Rattle.reduce_model.specs.Joining.{AcceptsBroken, AcceptsKept, IsTooWide, JoinsKept}
+use Rattle.list_dfa.proofs.Keeping.{anything}
+use Rattle.reduce_model.proofs.Members.{least-same}
+use Rattle.dfa_minimise.proofs.Widths.{over-wide, wide-over}
+use Rattle.reduce_model.proofs.Sifts.{IsCarried, carried-more, carried-none, implied-joins, same-more}
+use Rattle.list_dfa.proofs.Listing.{empty-narrow}
+use Rattle.reduce_model.specs.Joining.{IsTooWide, JoinsKept}
+use Rattle.list_dfa.specs.Extending.{AcceptsBroken, AcceptsKept}
 use Rattle.reduce_model.specs.Keeping.{KeepsAll, IsKeepable}
 use Rattle.reduce_model.specs.Sifting.{Sifting, kept_of}
 use Rattle.reduce_model.specs.Within.{IsSiftWithin, IsSiftedWithin, IsWideList}

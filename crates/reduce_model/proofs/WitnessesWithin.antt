@@ -6,11 +6,10 @@ use Rattle.std.proofs.lemmas.List.{append-nil, drop_all, length_push, map-append
 use Rattle.dfa_core.specs.Automaton.{IsEverything, state_count}
 use Rattle.dfa_core.specs.Languages.{HasNoMember, IsLeastMember}
 use Rattle.template_core.specs.declared.constraint.Constraint.{Constraint}
-use Rattle.reduce_model.proofs.FirstPasses.{every-automaton, length-marked, none-implies, take-nil}
+use Rattle.reduce_model.proofs.FirstPasses.{length-marked, none-implies}
+use Rattle.list_dfa.proofs.Listing.{every-automaton, take-nil, empty-narrow}
 use Rattle.reduce_model.proofs.Grows.{breaks-same, sought}
-use Rattle.reduce_model.proofs.Marks.{anything}
-use Rattle.reduce_model.proofs.Meaning.{keeps-append}
-use Rattle.reduce_model.proofs.Sifts.{empty-narrow, keeps-push, push-keeps}
+use Rattle.list_dfa.proofs.Keeping.{anything, keeps-append, keeps-push, push-keeps}
 use Rattle.reduce_model.proofs.Witnessing.{start-push, start-wide}
 use Rattle.reduce_model.specs.Deciding.{is_kept, is_left, marked, those}
 use Rattle.reduce_model.specs.Keeping.{KeepsAll}

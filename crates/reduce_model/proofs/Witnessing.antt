@@ -11,13 +11,13 @@ use Rattle.template_core.specs.declared.constraint.Constraint.{Constraint}
 use Rattle.reduce_model.proofs.FirstPasses.{narrow-push}
 use Rattle.reduce_model.proofs.Grows.{sought}
 use Rattle.reduce_model.proofs.Lists.{all-append, all_but-at, length-all_but, phase-first, phase-narrow}
-use Rattle.reduce_model.proofs.Marks.{anything}
-use Rattle.reduce_model.proofs.Members.{over-wide, wide-over}
-use Rattle.reduce_model.proofs.Sifts.{keeps-push, push-keeps}
+use Rattle.list_dfa.proofs.Keeping.{anything, keeps-push, push-keeps}
+use Rattle.dfa_minimise.proofs.Widths.{over-wide, wide-over}
 use Rattle.reduce_model.specs.Building.{IsFirstOfWide, all_but_each, in_phase}
-use Rattle.reduce_model.specs.Joining.{AcceptsKept, Extends}
+use Rattle.list_dfa.specs.Extending.{AcceptsKept, Extends}
 use Rattle.reduce_model.specs.Keeping.{KeepsAll}
-use Rattle.reduce_model.specs.Passes.{AreFirstWitnesses, IsAutomatonOf, IsFirstPrefix, IsIrredundant, IsNarrowList, IsSought, IsSoughtFrom, IsStart, IsWitnessed}
+use Rattle.reduce_model.specs.Passes.{AreFirstWitnesses, IsIrredundant, IsSought, IsSoughtFrom, IsStart, IsWitnessed}
+use Rattle.list_dfa.specs.Lists.{IsFirstPrefix, IsNarrowList}
 use Rattle.reduce_model.specs.Reduction.{AreWitnesses, Breaks}
 use Rattle.reduce_model.specs.declared.grown.Sought.{Sought}
 use Rattle.reduce_model.specs.declared.prefixes.Prefix.{Prefix}

@@ -4,7 +4,8 @@ use Rattle.std.proofs.lemmas.Bool.{cases_lt}
 use Rattle.std.proofs.lemmas.List.{get_or-map, map-set, set-get_or, take_more_same}
 use Rattle.std.proofs.lemmas.Option.{get_or_from_slice_get, slice_get_within}
 use Rattle.template_core.specs.declared.constraint.Constraint.{Constraint}
-use Rattle.reduce_model.proofs.Marks.{anything, at_place}
+use Rattle.reduce_model.proofs.Marks.{at_place}
+use Rattle.list_dfa.proofs.Keeping.{anything}
 use Rattle.reduce_model.specs.Deciding.{is_consistent, marked}
 use Rattle.reduce_model.specs.Reduction.{IsFirstAbove, TellsWeaker}
 use Rattle.reduce_model.specs.declared.decision.Decision.{Decision}

@@ -1,29 +1,28 @@
 -- What each step of the reduction is given and what it makes of the decisions: internal to the crate.
 use Rattle.std.specs.List.{All as Every, HoldsAt}
-use Rattle.std.specs.Prelude.{◌≡◌, ◌↔◌, ℕ, suc, ◌+◌, ◌<◌, ◌≤◌, List, [], ◌∷◌, ◌++◌, Bool, Option, None, Some, length, map, take, drop, get_or, slice_get, ⊤}
+use Rattle.std.specs.Prelude.{◌≡◌, ℕ, suc, ◌+◌, ◌<◌, ◌≤◌, List, [], ◌∷◌, ◌++◌, Bool, Option, None, Some, length, map, take, drop, get_or, slice_get, ⊤}
 use Rattle.decl_base.specs.declared.refusal.Refusal.{Refusal}
 use Rattle.decl_base.specs.declared.refusal.Refusal.TheVariants.{States, Memory}
-use Rattle.dfa_core.specs.Automaton.{Automaton, Accepts, state_count}
+use Rattle.dfa_core.specs.Automaton.{Automaton, state_count}
 use Rattle.dfa_core.specs.Languages.{HasNoMember, IsLeastMember}
-use Rattle.dfa_core.specs.Traces.{IsTrace}
 use Rattle.dfa_minimise.specs.Wide.{IsWide}
 use Rattle.template_core.specs.declared.constraint.Constraint.{Constraint}
 use Rattle.reduce_model.specs.Building.{AreNarrow, IsFirstOfWide, all_but_each, in_phase, tests, up_to_each}
 use Rattle.reduce_model.specs.Deciding.{as_sifted, is_kept, is_left, is_strongest, marked, those}
 use Rattle.reduce_model.specs.Keeping.{KeepsAll, KeepsOne}
 use Rattle.reduce_model.specs.Reduction.{AreWitnesses, Breaks, Implies, IsReduction, TellsFirstPass, TellsSecondPass, TellsWeaker}
-use Rattle.reduce_model.specs.Joining.{AcceptsKept, Extends}
+use Rattle.list_dfa.specs.Extending.{AcceptsKept, Extends}
 use Rattle.reduce_model.specs.Sifting.{kept_of}
 use Rattle.reduce_model.specs.Within.{AreWitnessesWithin, IsClosed, IsFirstPassedWithin, IsReductionWithin, IsSecondPassedWithin, TellsUntested}
 use Rattle.reduce_model.specs.declared.decision.Decision.{Decision}
 use Rattle.reduce_model.specs.declared.decision.Decision.TheVariants.{Kept, FirstPass, SecondPass, Untested}
-use Rattle.reduce_model.specs.declared.grown.Grown.{Grown}
-use Rattle.reduce_model.specs.declared.grown.Grown.TheVariants.{All, Wide}
 use Rattle.reduce_model.specs.declared.grown.Sought.{Sought}
 use Rattle.reduce_model.specs.declared.grown.Sought.TheVariants.{Found, Missing, TooWide}
 use Rattle.reduce_model.specs.declared.first_within.FirstPassed.{FirstPassed}
 use Rattle.reduce_model.specs.declared.prefixes.Prefix.{Prefix}
 use Rattle.reduce_model.specs.declared.witnesses_within.Witnessed.{Witnessed}
+use Rattle.list_dfa.specs.Growing.{AcceptsAll, IsNarrowFrom, IsWideFrom}
+use Rattle.list_dfa.specs.Lists.{IsNarrowList, IsFirstPrefix, IsAutomatonOf}
 
 -- a decision without the marks of the first pass and of what comes after it, and without those of what comes after the first pass
 abbrev pub before_first_pass : Decision → Decision
@@ -90,41 +89,6 @@ pub record IsImpliedDropped (n s : ℕ) (list : List Constraint) (old new : List
   pub as_many : length new ≡ length old
   pub reduction : (example : List ℕ) → IsLeastMember n (KeepsAll (kept_of list old)) example → IsReduction n s list (record { decisions = new; witnesses = witnesses; example = example })
 
--- what an automaton accepts that keeps a list too
-abbrev pub AcceptsAll : Automaton → List Constraint → List ℕ → Type 0
-AcceptsAll a list w = Accepts a w × KeepsAll list w
-
--- no part of a list with one or more of its constraints is wide
-abbrev pub IsNarrowFrom : ℕ → Automaton → List Constraint → Type 0
-IsNarrowFrom s a list = (size : ℕ) → 0 < size → size ≤ length list → IsWide a.symbols (AcceptsAll a (take size list)) s → ⊥
-
--- an automaton joined with a list: no part of it with one or more of the constraints is wide
-pub record IsGrownBy (s : ℕ) (a : Automaton) (list : List Constraint) (grown : Automaton) : Type 0 where
-  pub over : grown.symbols ≡ a.symbols
-  pub same : (w : List ℕ) → IsTrace a.symbols w → Accepts grown w ↔ AcceptsAll a list w
-  pub few : state_count grown ≤ 65536
-  pub narrow : IsNarrowFrom s a list
-
--- or the first part that is
-pub record IsWideFrom (s : ℕ) (a : Automaton) (list : List Constraint) (size : ℕ) : Type 0 where
-  pub some : 0 < size
-  pub within : size ≤ length list
-  pub wide : IsWide a.symbols (AcceptsAll a (take size list)) s
-  pub first : (less : ℕ) → 0 < less → less < size → IsWide a.symbols (AcceptsAll a (take less list)) s → ⊥
-
--- what has grown, or what was at the start
-abbrev pub grown_from : {T : Type 0} → T → Option T → T
-grown_from start None = start
-grown_from start (Some grown) = grown
-
-abbrev pub IsGrown : ℕ → Automaton → List Constraint → Grown → Type 0
-IsGrown s a list (All grown) = IsGrownBy s a list (grown_from a grown)
-IsGrown s a list (Wide size) = IsWideFrom s a list size
-
--- the list and its prefixes are narrow; or the prefix of this length is the first that is wide
-abbrev pub IsNarrowList : ℕ → ℕ → List Constraint → Type 0
-IsNarrowList n s list = (size : ℕ) → IsWide n (KeepsAll (take size list)) s → ⊥
-
 -- For some constraints that come after a list, from the first on, the least trace that keeps all the others and breaks it. The others are narrow.
 abbrev pub AreFirstWitnesses : ℕ → ℕ → List Constraint → List Constraint → List (List ℕ) → Type 0
 AreFirstWitnesses n s before after [] = ⊤
@@ -132,22 +96,11 @@ AreFirstWitnesses n s before [] (w ∷ witnesses) = ⊥
 AreFirstWitnesses n s before (c ∷ after) (w ∷ witnesses) =
     (IsLeastMember n (Breaks (before ++ after) c) w × IsNarrowList n s (before ++ after)) × AreFirstWitnesses n s (before ++ c ∷ []) after witnesses
 
-pub record IsFirstPrefix (n s : ℕ) (list : List Constraint) (size : ℕ) : Type 0 where
-  pub within : size ≤ length list
-  pub wide : IsWide n (KeepsAll (take size list)) s
-  pub first : (less : ℕ) → less < size → IsWide n (KeepsAll (take less list)) s → ⊥
-
 -- the least trace that keeps a list and breaks a constraint
 abbrev pub IsSought : ℕ → ℕ → List Constraint → Constraint → Sought → Type 0
 IsSought n s list c (Found trace) = IsLeastMember n (Breaks list c) trace × IsNarrowList n s list
 IsSought n s list c Missing = HasNoMember n (Breaks list c) × IsNarrowList n s list
 IsSought n s list c (TooWide size) = IsFirstPrefix n s list size
-
--- a list as an automaton
-pub record IsAutomatonOf (n : ℕ) (list : List Constraint) (a : Automaton) : Type 0 where
-  pub over : a.symbols ≡ n
-  pub same : (w : List ℕ) → IsTrace n w → Accepts a w ↔ KeepsAll list w
-  pub few : state_count a ≤ 65536
 
 -- a list as a prefix of others
 pub record IsStart (n s : ℕ) (list : List Constraint) (prefix : Prefix) : Type 0 where

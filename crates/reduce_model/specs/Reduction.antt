@@ -4,22 +4,14 @@ use Rattle.std.specs.List.{AllByRecursion}
 use Rattle.decl_base.specs.declared.refusal.Refusal.{Refusal}
 use Rattle.decl_base.specs.declared.refusal.Refusal.TheVariants.{States, Memory}
 use Rattle.dfa_core.specs.Languages.{HasNoMember, IsLeastMember}
-use Rattle.dfa_core.specs.Traces.{IsTrace}
+pub use Rattle.list_dfa.specs.Lists.{Breaks, Implies}
 use Rattle.template_core.specs.declared.constraint.Constraint.{Constraint}
 use Rattle.reduce_model.specs.Building.{AreNarrow, IsFirstOfWide, built_lists}
 use Rattle.reduce_model.specs.Deciding.{IsAt, after, before, is_at_limit, is_consistent, is_kept, is_left, is_strongest, those}
 use Rattle.template_set.specs.Hierarchy.{IsStronger}
-use Rattle.reduce_model.specs.Keeping.{KeepsAll, KeepsOne}
+use Rattle.reduce_model.specs.Keeping.{KeepsAll}
 use Rattle.reduce_model.specs.declared.decision.Decision.{Decision}
 use Rattle.reduce_model.specs.declared.decision.Decision.TheVariants.{Conflict, Weaker, FirstPass, SecondPass}
-
--- every trace over the symbols below n that keeps the list keeps the constraint
-abbrev pub Implies : ℕ → List Constraint → Constraint → Type 0
-Implies n list c = (w : List ℕ) → IsTrace n w → KeepsAll list w → KeepsOne c w
-
--- a trace keeps the list and breaks the constraint
-abbrev pub Breaks : List Constraint → Constraint → List ℕ → Type 0
-Breaks list c w = KeepsAll list w × (KeepsOne c w → ⊥)
 
 -- at the place stands a constraint that has the mark and is above the given one
 pub record IsAbove (list : List Constraint) (marks : List Bool) (c : Constraint) (place : ℕ) : Type 0 where

@@ -32,6 +32,3 @@ pub use laws_within::{
 };
 pub use reduction::reduce;
 pub use within::{reduce_within, sift_within};
-
-#[cfg(test)]
-mod tests;

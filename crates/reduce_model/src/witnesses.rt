@@ -2,10 +2,10 @@ ghost use Rattle.std.specs.Prelude.{◌≡◌, ◌≤◌, [], length, take, All,
 ghost use Rattle.template_core.specs.Constraints.{IsWellMadeFor};
 ghost use Rattle.reduce_model.specs.Passes.{AreFirstWitnesses, IsIrredundant, IsStart, IsWitnessed, RefusesWitnesses};
 
-use crate::grown::{Sought, or_start, seek};
-use crate::kept::extended;
+use crate::grown::{Sought, seek};
 use crate::prefixes::Prefix;
 use decl_base::{Refusal, Trace};
+use list_dfa::{extended, or_start};
 use std::alloc::Global;
 use template_core::Constraint;
 

@@ -4,11 +4,11 @@ ghost use Rattle.reduce_model.specs.Passes.{IsBreakable, IsFoundOf, IsNext, IsSm
 
 use crate::Decision;
 use crate::grown::{Sought, seek};
-use crate::kept::extended;
 use crate::others::push_kept;
 use crate::prefixes::Prefix;
 use decl_base::{Refusal, Trace};
 use dfa_core::Dfa;
+use list_dfa::extended;
 use std::alloc::Global;
 use template_core::Constraint;
 

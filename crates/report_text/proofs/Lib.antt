@@ -1,3 +1,5 @@
 pub mod Joined
+pub mod OpenTraces
 mod TableRows
 pub mod Written
+pub mod OpenTraces

@@ -1,22 +1,12 @@
-use Rattle.dfa_minimise.specs.Partitions.{members_of}
-use Rattle.dfa_minimise.proofs.Quotients.{fewer-columns, language-quotient, least-quotient}
+use Rattle.std.proofs.Common.{arith}
+use Rattle.dfa_core.specs.Automaton.{Accepts}
+use Rattle.dfa_minimise.proofs.Widths.{narrow-few_states}
+use Rattle.dfa_minimise.specs.Wide.{IsWide}
 use Rattle.dfa_minimise.proofs.minimal.least.Goals as goal
 
-pub equivalent_states-requires : goal.equivalent_states-requires
-equivalent_states-requires c = c.in_ok-reached.ensures.columns.some
-
-pub returns-clause-language : goal.returns-clause-language
-returns-clause-language c =
-    let a = c.in_ok-reached.reached in
-    let p = c.in_ok-partition.partition in
-    language-quotient a p.class.items (members_of p) c.in_ok-partition.ensures.equivalence.whole c.in_ok-partition.ensures.equivalence c.in_ok-least.least c.in_ok-least.ensures.ok c.args.dfa.now c.in_ok-reached.ensures.ok
-
-pub returns-clause-least : goal.returns-clause-least
-returns-clause-least c =
-    let a = c.in_ok-reached.reached in
-    let p = c.in_ok-partition.partition in
-    least-quotient a p.class.items (members_of p) c.in_ok-partition.ensures.equivalence.whole c.in_ok-partition.ensures.equivalence c.in_ok-least.least c.in_ok-least.ensures.ok
-
-pub returns-clause-columns : goal.returns-clause-columns
-returns-clause-columns c =
-    fewer-columns c.args.dfa.now c.in_ok-reached.reached c.in_ok-least.least c.in_ok-reached.ensures.columns c.in_ok-least.ensures.columns
+-- no language is wide for as many states as an automaton of it has
+pub unreachable-requires : goal.unreachable-requires
+unreachable-requires c =
+    let a = c.args.dfa.now in
+    let wide : IsWide a.symbols (Accepts a) c.states.result = rw c.in-None.is at c.in_ok-least.ensures.ok in
+    narrow-few_states a c.states.result c.states.ensures.whole (omega (arith, c.states.ensures.value)) wide

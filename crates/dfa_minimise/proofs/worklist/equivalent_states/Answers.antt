@@ -3,7 +3,7 @@ use Rattle.dfa_core.specs.Automaton.{state_count}
 use Rattle.dfa_minimise.specs.Partitions.{IsCut, IsPartition, members_of}
 use Rattle.dfa_minimise.specs.Classes.{AreInClass, LeadTo}
 use Rattle.dfa_minimise.proofs.Marking.{classes_few}
-use Rattle.dfa_minimise.proofs.Wholes.{partition-tidy}
+use Rattle.dfa_minimise.proofs.Wholes.{many-apart, partition-tidy}
 use Rattle.dfa_minimise.proofs.Refining.{sound-accepting, split-more, split-all}
 use Rattle.dfa_minimise.proofs.worklist.equivalent_states.Goals as goal
 
@@ -65,8 +65,19 @@ splitters-preserved c =
       within = omega (arith, h.grows, low);
     }
 
-pub returns-clause-equivalence : goal.returns-clause-equivalence
-returns-clause-equivalence c =
+-- more classes than are wanted, before another split and in the end
+pub returns-then-count-most : goal.returns-then-count-most
+returns-then-count-most c =
+    let h = c.columns.invariant in
+    many-apart c.args.dfa.now c.args.most c.columns.classes h.tidy h.states h.split.sound (omega (arith, c.if-count-most.true, c.count-in-columns.ensures))
+
+pub returns-then-count-most-2 : goal.returns-then-count-most-2
+returns-then-count-most-2 c =
+    let h = c.splitters.invariant in
+    many-apart c.args.dfa.now c.args.most c.splitters.classes h.tidy h.states h.sound (omega (arith, c.if-count-most-2.true, c.count-2.ensures))
+
+pub returns : goal.returns
+returns c =
     let a = c.args.dfa.now in
     let p = c.splitters.classes in
     let h = c.splitters.invariant in
@@ -75,8 +86,12 @@ returns-clause-equivalence c =
     let bound : (q : ℕ) → q < state_count a → get_or p.class.items q 0 < c.splitters.splitter = λ q lq.
     let b = h.tidy.refinable.class_bound q (omega (arith, h.states, lq)) in omega (arith, b, c.splitters-test.false, c.count.ensures) in
     record {
-      whole = whole;
-      partition = subst P h.states (partition-tidy p h.tidy);
-      sound = h.sound;
-      stable = λ q r x lq lr lx e. h.stable.stable q r x lq lr lx e (bound _ (whole.entry_bound q x lq lx)) (bound _ (whole.entry_bound r x lr lx));
+      tidy = h.tidy;
+      equivalence = record {
+        whole = whole;
+        partition = subst P h.states (partition-tidy p h.tidy);
+        sound = h.sound;
+        stable = λ q r x lq lr lx e. h.stable.stable q r x lq lr lx e (bound _ (whole.entry_bound q x lq lx)) (bound _ (whole.entry_bound r x lr lx));
+      };
+      few = omega (arith, c.if-count-most-2.false, c.count-2.ensures);
     }

@@ -1,6 +1,6 @@
 use Rattle.std.proofs.Common.{get_or, refl, arith}
 use Rattle.std.proofs.lemmas.List.{take_all, take_more}
-use Rattle.reduce_model.proofs.Marks.{anything}
+use Rattle.list_dfa.proofs.Keeping.{anything}
 use Rattle.reduce_model.proofs.Sifts.{so_far-all, so_far-conflict, so_far-implied, so_far-kept, so_far-length, so_far-none, so_far-refused}
 use Rattle.reduce_model.proofs.conflicts.sift.Goals as goal
 use Rattle.reduce_model.proofs.conflicts.sift.Goals.{in-Implied+in_ok-push-in-Implied, in-Joins+in_ok-push-in-Joins, in-Conflicts+in_ok-push-in-Conflicts}

@@ -1,6 +1,6 @@
 use Rattle.std.proofs.Common.{refl}
 use Rattle.reduce_model.proofs.Grows.{found, missing}
-use Rattle.reduce_model.specs.Passes.{grown_from}
+use Rattle.list_dfa.specs.Growing.{grown_from}
 use Rattle.reduce_model.proofs.grown.seek.Goals as goal
 
 pub returns-in-Some-clause-ok : goal.returns-in-Some-clause-ok

@@ -1,7 +1,7 @@
 use Rattle.std.proofs.Common.{[], ◌∷◌, false, take, get_or, map, arith, sym, ◌∙◌, append_assoc}
 use Rattle.std.proofs.lemmas.List.{get_or-map, length-map}
 use Rattle.reduce_model.specs.Deciding.{is_kept, marked}
-use Rattle.reduce_model.proofs.Marks.{anything}
+use Rattle.list_dfa.proofs.Keeping.{anything}
 use Rattle.reduce_model.specs.declared.decision.Decision.TheVariants.{Kept}
 use Rattle.reduce_model.proofs.FirstPasses.{before-has, before-lacks}
 use Rattle.reduce_model.proofs.others.push_kept.Goals as goal

@@ -1,6 +1,6 @@
 use Rattle.std.proofs.Common.{◌≤◌, ◌-◌, get_or, map, refl, reverse, sym, subst, ◌∙◌, arith}
 use Rattle.template_core.specs.Constraints.{IsWellMadeFor}
-use Rattle.reduce_model.proofs.Marks.{anything}
+use Rattle.list_dfa.proofs.Keeping.{anything}
 use Rattle.reduce_model.proofs.SecondPasses.{all-from, back-end, back-found, back-length, back-missing, back-on, back-refused, back-sought, back-step, back-within, found-more, found-on, found-step}
 use Rattle.reduce_model.specs.Deciding.{is_left}
 use Rattle.reduce_model.specs.Passes.{IsPrefixOf}

@@ -1,6 +1,6 @@
 use Rattle.std.proofs.Common.{◌≤◌, ◌-◌, get_or, map, sym, subst, ◌∙◌, arith}
 use Rattle.template_core.specs.Constraints.{IsWellMadeFor}
-use Rattle.reduce_model.proofs.Marks.{anything}
+use Rattle.list_dfa.proofs.Keeping.{anything}
 use Rattle.reduce_model.proofs.SecondPasses.{all-from, back-length, back-sought}
 use Rattle.reduce_model.proofs.SecondPassesWithin.{testing-found, testing-inside, testing-missing, testing-on, testing-past, testing-step, testing-wide}
 use Rattle.reduce_model.specs.Deciding.{is_left}

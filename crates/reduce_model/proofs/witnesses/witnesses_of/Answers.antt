@@ -1,9 +1,9 @@
 use Rattle.std.proofs.Common.{◌≡◌, ◌+◌, ◌-◌, ◌≤◌, drop, get_or, length, ap, arith}
 use Rattle.std.proofs.lemmas.List.Elements.{All-drop, All-take}
 use Rattle.template_core.specs.Constraints.{IsWellMadeFor}
-use Rattle.reduce_model.proofs.Marks.{anything}
+use Rattle.list_dfa.proofs.Keeping.{anything}
 use Rattle.reduce_model.proofs.Witnessing.{IsWitnessingAt, at-found, at-known, at-sought, behind-is, narrow-at, next-last, next-more, not-missing, start-more, start-refused, witnessing-end, witnessing-known, witnessing-refused, witnessing-whole}
-use Rattle.reduce_model.specs.Passes.{grown_from}
+use Rattle.list_dfa.specs.Growing.{grown_from}
 use Rattle.reduce_model.specs.declared.prefixes.Prefix.{Prefix}
 use Rattle.reduce_model.specs.declared.grown.Sought.TheVariants.{Found, Missing, TooWide}
 use Rattle.reduce_model.proofs.witnesses.witnesses_of.Goals as goal

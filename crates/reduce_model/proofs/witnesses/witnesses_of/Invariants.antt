@@ -1,5 +1,5 @@
 use Rattle.reduce_model.proofs.Witnessing.{IsWitnessingAt}
-use Rattle.reduce_model.specs.Passes.{grown_from}
+use Rattle.list_dfa.specs.Growing.{grown_from}
 use Rattle.reduce_model.proofs.witnesses.witnesses_of.Given as goal
 
 abbrev pub invariant-loop-place : goal.invariant-loop-place

@@ -1,0 +1,10 @@
+pub mod Ascending
+pub mod Each
+pub mod Earlier
+pub mod SameTables
+pub mod Fits
+pub mod Whole
+pub mod Witnesses
+pub mod Sound
+pub mod FirstSeen
+pub mod Determined

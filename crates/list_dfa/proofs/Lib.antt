@@ -1,0 +1,5 @@
+pub mod Keeping
+pub mod Fitting
+pub mod Grows
+pub mod Prefixes
+pub mod Listing

@@ -1,0 +1,4 @@
+-- Meaning: what clauses of public functions speak of.
+pub mod Lists
+pub mod Extending
+pub mod Growing

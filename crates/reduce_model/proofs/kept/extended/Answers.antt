@@ -1,6 +1,0 @@
-use Rattle.std.proofs.lemmas.Result.{IfOk-weaker}
-use Rattle.reduce_model.proofs.Joins.{extends-or-wide}
-use Rattle.reduce_model.proofs.kept.extended.Goals as goal
-
-pub returns-clause-ok : goal.returns-clause-ok
-returns-clause-ok c = IfOk-weaker c.fitted.result _ _ (extends-or-wide c.args.states c.args.dfa.now c.args.constraint.now c.in_ok-both.both c.in_ok-both.ensures.ok) c.fitted.ensures.ok

@@ -16,6 +16,8 @@ mod lists;
 #[cfg(test)]
 mod logs;
 #[cfg(test)]
+mod monitors;
+#[cfg(test)]
 mod products;
 #[cfg(test)]
 mod reductions;

@@ -1,11 +1,16 @@
 //! Reports as JSON values, their texts, and the models that are read back.
 #![tactic(auto)]
 
+mod certificates;
+mod chain_values;
+mod claims;
 mod constraints;
 mod decisions;
+mod elements;
 mod items;
 mod known;
 mod laws;
+mod links;
 mod reading;
 mod report;
 mod shapes;
@@ -13,6 +18,8 @@ mod shapes;
 mod tests;
 mod text;
 
+pub use certificates::read_certificate;
+pub use chain_values::certificate_value;
 pub use constraints::trace_value;
 pub use decisions::{is_tested, staying};
 pub use known::KnownModel;

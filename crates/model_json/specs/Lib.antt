@@ -1,4 +1,2 @@
 pub mod Model
 pub mod Report
-pub mod Certificate
-pub mod ChainValue

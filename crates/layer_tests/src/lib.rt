@@ -16,6 +16,8 @@ mod lists;
 #[cfg(test)]
 mod logs;
 #[cfg(test)]
+mod models;
+#[cfg(test)]
 mod monitors;
 #[cfg(test)]
 mod products;
@@ -23,3 +25,5 @@ mod products;
 mod reductions;
 #[cfg(test)]
 mod string_logs;
+#[cfg(test)]
+mod words;

@@ -9,8 +9,6 @@ mod laws;
 mod reading;
 mod report;
 mod shapes;
-#[cfg(test)]
-mod tests;
 mod text;
 
 pub use constraints::trace_value;

@@ -1,5 +1,5 @@
-use crate::read_model;
 use decl_base::Refusal;
+use model_json::read_model;
 use std::alloc::Global;
 use std::test::Fail;
 use template_core::{Constraint, Kind};

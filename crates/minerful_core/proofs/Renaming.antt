@@ -1,10 +1,11 @@
 -- A model over other names: its constraints are as well made as they were, where those names have its own.
-use Rattle.std.proofs.Common.{◌≡◌, ◌≢◌, ℕ, ◌<◌, ◌+◌, ◌*◌, ◌≤◌, List, [], ◌∷◌, ◌++◌, Bool, true, false, cond, refl, ◌||◌, All, fold, take, Result, Ok, Err, IfOk, slice_index_or, length, sym, ap, subst, ◌∙◌, arith}
+use Rattle.std.proofs.Common.{◌≡◌, ◌≢◌, ℕ, ◌<◌, ◌+◌, ◌*◌, ◌≤◌, List, [], ◌∷◌, ◌++◌, Bool, true, false, cond, refl, ◌||◌, All, fold, take, Result, Ok, Err, IfOk, Some, slice_get, slice_index_or, length, sym, ap, subst, ◌∙◌, arith}
 use Rattle.std.specs.Cmp.Lexicographic.{bytes_decides}
 use Rattle.std.specs.Str.{bytes_eq}
 use Rattle.std.proofs.lemmas.List.{length-append, length-map, length-take, length_push}
 use Rattle.std.proofs.lemmas.List.Elements.{All-map, All-weaker}
 use Rattle.std.proofs.lemmas.List.Folds.{list_any-append}
+use Rattle.std.proofs.lemmas.Option.{get_or_from_slice_get}
 use Rattle.std.proofs.lemmas.List.Sums.{fold-append, passes_at_first}
 use Rattle.decl_base.specs.Limits.{standard}
 use Rattle.decl_base.specs.declared.refusal.Refusal.{Refusal}
@@ -62,6 +63,12 @@ module _ (names : List (List ℕ)) (model : Known) (has : HasNames names model) 
   constraints-made made =
       All-map (IsWellMadeFor (symbols_of names)) (put_over names model) model.constraints
       (All-weaker (IsWellMadeFor (length model.names)) (λ c. IsWellMadeFor (symbols_of names) (put_over names model c)) one-made model.constraints made)
+
+-- a name that was found stands at this place
+pub place-is : (names own listed : List (List ℕ)) (id : ℕ) (name : List ℕ) (place : ℕ) → place ≡ place_of names name → slice_get listed id ≡ Some name → listed ≡ own
+    → place ≡ place_of names (slice_index_or own id [])
+place-is names own listed id name place is at same =
+    is ∙ ap (place_of names) (sym (get_or_from_slice_get listed id name [] at) ∙ ap (λ l. slice_index_or l id []) same)
 
 -- a model that was read is one that a model may be
 pub is_model : {E : Type 0} (read : Result Known E) → IfOk read (λ m. StandOnce m.names) → IfOk read (λ m. All (IsWellMadeFor (length m.names)) m.constraints)

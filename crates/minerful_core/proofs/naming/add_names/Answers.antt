@@ -1,4 +1,4 @@
-use Rattle.std.proofs.Common.{ap, sym, ◌∙◌, take, fold}
+use Rattle.std.proofs.Common.{◌<◌, ap, sym, ◌∙◌, take, fold, length, arith}
 use Rattle.std.proofs.lemmas.List.Sums.{fold_push}
 use Rattle.event_log.specs.Alphabet.{Names}
 use Rattle.event_log.specs.Logs.{with_name}
@@ -18,6 +18,7 @@ loop-id-preserved c =
 
 pub returns-in_err-add-clause-err : goal.returns-in_err-add-clause-err
 returns-in_err-add-clause-err c =
-    handed_on c.from_residual-in_err-add.result c.in_err-add.field-0.0 _ c.from_residual-in_err-add.ensures.1
+    let inside : c.loop-id.id < length c.args.more.now.names = omega (arith, c.loop-id-test.true, c.len-id-end.ensures) in
+    handed_on c.from_residual.result c.in_err-add.field-0.0 _ c.from_residual.ensures.1
     (only_memory c.loop-id.names c.name.result.now c.in_err-add.field-0.0
-    (room_for_one c.args.names.now c.loop-id.names c.args.more.now.names c.loop-id.id c.requires c.loop-id-test.true c.loop-id.invariant) c.in_err-add.ensures.cause)
+    (room_for_one c.args.names.now c.loop-id.names c.args.more.now.names c.loop-id.id c.requires inside c.loop-id.invariant) c.in_err-add.ensures.cause)

@@ -2,4 +2,3 @@ pub mod Joined
 pub mod OpenTraces
 mod TableRows
 pub mod Written
-pub mod OpenTraces

@@ -67,7 +67,7 @@ fn put_accepts(
     names: &Alphabet,
     accepts: Option<&Trace>,
 ) -> Result<(), AllocError>
-    ensures { OnOk result (out.new.items ≡ out.old.items ++ accepts_line names.now.names (option_map (λ t. t.now) accepts)) }
+    ensures { OnOk result (out.new.items ≡ out.old.items ++ accepts_line names.now.names (option_map (λ t. t.now) accepts.entry)) }
 {
     match accepts {
         Some(trace) => put_trace(alloc, out, names, "accepts", trace),

@@ -51,7 +51,7 @@ fn put_line(
     word: &str,
     trace: Option<&Trace>,
 ) -> Result<(), AllocError>
-    ensures { OnOk result (out.new.items ≡ out.old.items ++ trace_line names.now.names word.now (option_map (λ t. t.now) trace)) }
+    ensures { OnOk result (out.new.items ≡ out.old.items ++ trace_line names.now.names word.now (option_map (λ t. t.now) trace.entry)) }
 {
     out.extend_from_slice(word.as_bytes())?;
     out.push(b' ')?;
@@ -67,7 +67,7 @@ fn put_trace(
     names: &Alphabet,
     trace: Option<&Trace>,
 ) -> Result<(), AllocError>
-    ensures { OnOk result (out.new.items ≡ out.old.items ++ trace_or_dash names.now.names (option_map (λ t. t.now) trace)) }
+    ensures { OnOk result (out.new.items ≡ out.old.items ++ trace_or_dash names.now.names (option_map (λ t. t.now) trace.entry)) }
 {
     match trace {
         Some(trace) => put_open_trace(alloc, out, names, trace)?,

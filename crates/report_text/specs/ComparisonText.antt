@@ -21,7 +21,11 @@ trace_or_dash names None = codes "-"
 abbrev pub trace_line : List (List ℕ) → List ℕ → Option (List ℕ) → List ℕ
 trace_line names word found = word ++ 32 ∷ [] ++ trace_or_dash names found ++ 10 ∷ []
 
+-- the verdict as a line
+abbrev pub verdict_line : Relation → List ℕ
+verdict_line relation = verdict_of relation ++ 10 ∷ []
+
 -- the verdict, and for each model the least trace that keeps it alone
 abbrev pub comparison_text : List (List ℕ) → Comparison → List ℕ
 comparison_text names c =
-    verdict_of c.relation ++ 10 ∷ [] ++ trace_line names (codes "only first") c.only_first ++ trace_line names (codes "only second") c.only_second
+    verdict_line c.relation ++ (trace_line names (codes "only first") c.only_first ++ trace_line names (codes "only second") c.only_second)

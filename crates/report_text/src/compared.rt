@@ -1,5 +1,5 @@
 ghost use Rattle.std.specs.Prelude.{◌≡◌, ◌++◌, option_map, IfOk, IfErr, OnOk};
-ghost use Rattle.report_text.specs.ComparisonText.{comparison_text, trace_line, trace_or_dash, verdict_of};
+ghost use Rattle.report_text.specs.ComparisonText.{comparison_text, trace_line, trace_or_dash, verdict_line, verdict_of};
 
 use crate::open_traces::put_open_trace;
 use decl_base::{Refusal, Trace};
@@ -18,8 +18,7 @@ pub fn compared_text(
     ensures err { IfErr result (λ e. e ≡ Refusal.Memory) }
 {
     let mut out = Vec::new(alloc);
-    out.extend_from_slice(verdict(compared.relation()).as_bytes())?;
-    out.push(b'\n')?;
+    put_verdict(&mut out, compared.relation())?;
     put_line(alloc, &mut out, names, "only first", compared.only_first())?;
     put_line(
         alloc,
@@ -29,6 +28,15 @@ pub fn compared_text(
         compared.only_second(),
     )?;
     Ok(out)
+}
+
+/// The line of what the first model is to the second.
+fn put_verdict(out: &mut Vec<u8>, relation: Relation) -> Result<(), AllocError>
+    ensures { OnOk result (out.new.items ≡ out.old.items ++ verdict_line relation) }
+{
+    out.extend_from_slice(verdict(relation).as_bytes())?;
+    out.push(b'\n')?;
+    Ok(())
 }
 
 /// What the first model is to the second.

@@ -39,6 +39,6 @@ fn name_or_null(alloc: Global, names: &Alphabet, symbol: u32) -> Result<Value, A
     if symbol < names.len() {
         Value::try_from_str(alloc, names.name(symbol))
     } else {
-        Ok(Value::Null)
+        Ok(Value::from(()))
     }
 }

@@ -25,5 +25,3 @@ mod products;
 mod reductions;
 #[cfg(test)]
 mod string_logs;
-#[cfg(test)]
-mod words;

@@ -1,4 +1,3 @@
 pub mod Joined
-pub mod OpenTraces
 mod TableRows
 pub mod Written

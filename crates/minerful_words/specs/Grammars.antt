@@ -57,10 +57,6 @@ most_length = 1000
 abbrev pub most_letters : ℕ
 most_letters = 26
 
--- the greatest number of traces that an analysis lists
-abbrev pub most_listed : ℕ
-most_listed = 20
-
 unfoldable pub format_of : List ℕ → Option Format
 format_of text =
     if bytes_eq text (codes "string") then Some format.Strings
@@ -80,8 +76,7 @@ stage_of text =
 unfoldable pub out_of : List ℕ → Option Out
 out_of text =
     if bytes_eq text (codes "json") then Some out.Json
-    else (if bytes_eq text (codes "table") then Some out.Table
-    else (if bytes_eq text (codes "cert") then Some out.Cert else None))
+    else (if bytes_eq text (codes "table") then Some out.Table else None)
 
 unfoldable pub repertoire_of : List ℕ → Option Repertoire
 repertoire_of text =

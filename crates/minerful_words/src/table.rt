@@ -26,7 +26,6 @@ pub(crate) enum Field {
     Letters,
     Repertoire,
     OnLimit,
-    First,
 }
 
 /// An option with one text, and the commands that take it.
@@ -57,24 +56,13 @@ const READING: &[Command] = &[Command::Mine, Command::Kb, Command::Check];
 /// The commands that mine a log.
 const MINING: &[Command] = &[Command::Mine];
 
-/// The commands that make an automaton.
-const LIMITED: &[Command] = &[
-    Command::Mine,
-    Command::Monitor,
-    Command::Compare,
-    Command::Analyse,
-];
-
-/// The commands that list the first traces of a model.
-const LISTING: &[Command] = &[Command::Analyse];
-
 /// The commands that generate a log.
 const GENERATING: &[Command] = &[Command::Gen, Command::Sample];
 
 /// The commands that write the log that they generate.
 const WRITING: &[Command] = &[Command::Gen];
 
-const OPTIONS: [CommandOption; 18] = [
+const OPTIONS: [CommandOption; 17] = [
     CommandOption {
         number: 2,
         name: "format",
@@ -126,7 +114,7 @@ const OPTIONS: [CommandOption; 18] = [
     CommandOption {
         number: 10,
         name: "max-states",
-        commands: LIMITED,
+        commands: MINING,
         field: Field::States,
     },
     CommandOption {
@@ -177,15 +165,9 @@ const OPTIONS: [CommandOption; 18] = [
         commands: MINING,
         field: Field::OnLimit,
     },
-    CommandOption {
-        number: 21,
-        name: "first",
-        commands: LISTING,
-        field: Field::First,
-    },
 ];
 
-/// The model; to `verify`, a certificate; to `compare`, the first model; to `regex`, the name of a template.
+/// The model; to `regex`, the name of a template.
 const MODEL: Positional = Positional {
     name: "model",
     is_required: true,
@@ -197,19 +179,13 @@ const LOG: Positional = Positional {
     is_required: false,
 };
 
-/// The second model of a comparison, in the log's place.
-const SECOND_MODEL: Positional = Positional {
-    name: "log",
-    is_required: true,
-};
-
 /// The word that an expression is tried on.
 const WORD: Positional = Positional {
     name: "word",
     is_required: false,
 };
 
-const COMMANDS: [CommandForm; 10] = [
+const COMMANDS: [CommandForm; 6] = [
     CommandForm {
         command: Command::Mine,
         name: "mine",
@@ -234,26 +210,6 @@ const COMMANDS: [CommandForm; 10] = [
         command: Command::Sample,
         name: "sample",
         positionals: &[],
-    },
-    CommandForm {
-        command: Command::Verify,
-        name: "verify",
-        positionals: &[MODEL],
-    },
-    CommandForm {
-        command: Command::Monitor,
-        name: "monitor",
-        positionals: &[MODEL, LOG],
-    },
-    CommandForm {
-        command: Command::Compare,
-        name: "compare",
-        positionals: &[MODEL, SECOND_MODEL],
-    },
-    CommandForm {
-        command: Command::Analyse,
-        name: "analyse",
-        positionals: &[MODEL],
     },
     CommandForm {
         command: Command::Regex,

@@ -135,6 +135,27 @@ def rules(path, seed, count):
         json.dump({"constraints": list(found.values())}, file)
 
 
+def process_rules(path, seed, names, count):
+    """A model of so many constraints that each trace of a process keeps, where no event was lost."""
+    steps = [chr(97 + place) for place in range(names)]
+    start, again, tried, one, other = steps[:5]
+    branches, end = steps[5:-1], steps[-1]
+    half = len(branches) // 2
+    found = [("Init", start), ("End", end), ("NotCoExistence", one, other), ("ChainSuccession", again, tried)]
+    found += [("AtMostOne", step) for step in [start, one, other, *branches, end]]
+    for step in steps[1:]:
+        found += [("Precedence", start, step), ("NotSuccession", step, start), ("RespondedExistence", step, start)]
+    for step in steps[:-1]:
+        found += [("Response", step, end), ("NotSuccession", end, step), ("AlternatePrecedence", step, end)][: 2 + (step in branches)]
+    for branch in [branches[:half], branches[half:]]:
+        pairs = [(first, second) for place, first in enumerate(branch) for second in branch[place + 1 :]]
+        found += [(name, *pair) for pair in pairs for name in ["Succession", "AlternateSuccession", "CoExistence"]]
+    chosen = random.Random(seed).sample(found, count)
+    items = [{"template": template, "parameters": [[name] for name in activities]} for template, *activities in chosen]
+    with open(path, "w", encoding="utf-8") as file:
+        json.dump({"constraints": items}, file)
+
+
 # The files by their names: who makes each, its seed, and its numbers.
 LOGS = {
     "1m-39.txt": (letters, 3, 1_000_000, 1, 39),
@@ -167,6 +188,8 @@ LOGS = {
     "line-15.txt": (one_line, 0, 15, 1),
     "line-16.txt": (one_line, 0, 16, 1),
     "line-26.txt": (one_line, 0, 26, 1),
+    "first-60.json": (process_rules, 19, 12, 60),
+    "second-60.json": (process_rules, 20, 12, 60),
 }
 
 
@@ -235,6 +258,10 @@ TABLES = {
         *((f"line-{count}.txt", ["mine", *KEEP]) for count in [15, 16, 26]),
         *(("any-20.txt", ["mine", *KEEP, *limits]) for limits in [DEFAULTS, ALWAYS]),
     ],
+    "by themselves": [
+        ("second-60.json", ["compare", "first-60.json"]),
+        ("first-60.json", ["analyse"]),
+    ],
     "checks": [(f"of-{length}-1m.txt", ["check", "rules-561.json"]) for length in [20, 1000]],
 }
 
@@ -246,6 +273,7 @@ TITLES = {
     "models": "Models",
     "second": "The second repertoire",
     "keep": "Beyond the limit on states",
+    "by themselves": "Models compared and analysed",
     "checks": "Checks",
 }
 

@@ -24,6 +24,7 @@ import threading
 from collections import Counter
 
 import cases
+import further_cases
 import model_cases
 from defined.outcome import Definitions, Input, Outcome
 from defined.refusals import STATUSES, Refused
@@ -171,7 +172,7 @@ def show(case, found, outcome, parts):
 
 def all_cases(given):
     chance = random.Random(given.seed)
-    for module in [cases, model_cases]:
+    for module in [cases, model_cases, further_cases]:
         yield from module.by_hand()
         for number in range(given.logs):
             yield from module.at_random(chance, number)
@@ -186,7 +187,7 @@ def print_counts(title, counts):
 
 
 def refusal_names():
-    states = [f"States, phase {phase}" for phase in range(1, 5)]
+    states = [f"States, phase {phase}" for phase in range(1, 8)]
     return [name for name in STATUSES if name != "States"] + states + [NO_TEXT]
 
 

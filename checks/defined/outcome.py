@@ -4,6 +4,7 @@ import re
 from dataclasses import dataclass, field
 
 from defined import texts
+from defined.comparison import analysed, compared
 from defined.expressions import EXPRESSIONS
 from defined.generator import SAMPLE, generated
 from defined.logs import csv_log, string_log
@@ -71,6 +72,10 @@ class Definitions:
                 return DONE, generated(*(given[name] for name in ["seed", "traces", "length", "letters"]))
             case "sample":
                 return DONE, self.sampled(given)
+            case "compare":
+                return self.compared(given, read)
+            case "analyse":
+                return self.analysed(given, read)
             case "regex":
                 return self.expressed(given["model"], given["word"])
 
@@ -94,11 +99,14 @@ class Definitions:
         string_log(found.data[: found.data.rfind(b"\n") + 1])
         raise Refused("ReadFault")
 
-    def model(self, given, read):
-        found = read(given["model"])
+    def whole(self, name, read):
+        found = read(name)
         if found is None or found.fails:
             raise Refused("ReadFault")
-        return model_of(found.data)
+        return found.data
+
+    def model(self, given, read, field="model"):
+        return model_of(self.whole(given[field], read))
 
     # Commands.
 
@@ -139,6 +147,18 @@ class Definitions:
         names, constraints = self.model(given, read)
         rows = check(names, constraints, self.log(given, read))
         return DIFFERS if any(row.broken for row in rows) else DONE, texts.check_table(names, constraints, rows)
+
+    def compared(self, given, read):
+        """The first is read and tried before the second is opened."""
+        models = [self.model(given, read, field) for field in ["model", "log"]]
+        names, (first, second) = texts.over_one_order(*models)
+        found = compared(first, second, len(names) + 1, given["max-states"], self.traces_tried)
+        return DONE if found[0] == "equal" else DIFFERS, texts.comparison(names, *found)
+
+    def analysed(self, given, read):
+        names, (model,) = texts.over_one_order(self.model(given, read))
+        found = analysed(model, len(names) + 1, given["max-states"], given["first"], self.traces_tried)
+        return DONE, texts.analysis(names, *found)
 
     def sampled(self, given):
         """Each seed once, since it takes seconds."""

@@ -104,6 +104,35 @@ def summary(seed, names, log, scored, model):
     return "".join(f"{word} {number}\n" for word, number in lines.items()).encode()
 
 
+# What is said of models.
+
+
+def over_one_order(*models):
+    """The names of all models in the order of their bytes, and each model's constraints by their places there."""
+    names = sorted({name for model in models for name in model[0]}, key=lambda name: name.encode())
+    places = {name: place for place, name in enumerate(names)}
+    return names, [
+        [(template, tuple(places[own[a]] for a in activities)) for template, activities in constraints]
+        for own, constraints in models
+    ]
+
+
+def trace_or(trace, names, otherwise):
+    """The symbol behind the last name is null."""
+    return otherwise if trace is None else quoted(named(trace, [*names, None]))
+
+
+def comparison(names, verdict, only_first, only_second):
+    first, second = trace_or(only_first, names, "-"), trace_or(only_second, names, "-")
+    return f"{verdict}\nonly first {first}\nonly second {second}\n".encode()
+
+
+def analysis(names, least, dead, redundant, found):
+    lines = [f"accepts {trace_or(least, names, 'none')}", f"dead {quoted(named(dead, names))}"]
+    lines += [f"redundant {quoted(redundant)}", *(f"trace {trace_or(trace, names, '')}" for trace in found)]
+    return "".join(f"{line}\n" for line in lines).encode()
+
+
 # The table of the knowledge base.
 
 

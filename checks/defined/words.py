@@ -10,22 +10,24 @@ from defined.templates import EXISTENCE, TEMPLATES
 LOG_OPTIONS = ["format", "case-column", "activity-column", "order-column", "order-as"]
 REPORT_OPTIONS = ["support", "confidence", "interest", "max-states", "stage", "out"]
 GEN_OPTIONS = ["seed", "traces", "length", "letters"]
-LATER_OPTIONS = ["repertoire", "on-limit"]
+LATER_OPTIONS = ["repertoire", "on-limit", "first"]
 
 # Of each command its options, and what it takes by its place.
 COMMANDS = {
-    "mine": (LOG_OPTIONS + REPORT_OPTIONS + LATER_OPTIONS, ["log"]),
+    "mine": (LOG_OPTIONS + REPORT_OPTIONS + ["repertoire", "on-limit"], ["log"]),
     "kb": (LOG_OPTIONS, ["log"]),
     "check": (LOG_OPTIONS, ["model", "log"]),
     "gen": (GEN_OPTIONS, []),
     "sample": (["seed"], []),
+    "compare": (["max-states"], ["model", "second"]),
+    "analyse": (["max-states", "first"], ["model"]),
     "regex": ([], ["model", "word"]),
 }
 
 # Those that a command must have.
-NEEDED = ["model"]
+NEEDED = ["model", "second"]
 # Commands that read two inputs.
-TWO_INPUTS = ["check"]
+TWO_INPUTS = ["check", "compare"]
 
 # The number that a usage line names. The values of options are tried before all else.
 TWICE_STANDARD_INPUT, TOO_MANY_EVENTS = 17, 18
@@ -78,6 +80,7 @@ MEANINGS = {
     "letters": whole(1, 26),
     "repertoire": one_of("1", "2"),
     "on-limit": one_of("stop", "keep"),
+    "first": whole(0, 20),
 }
 
 # What is taken where it isn't given.
@@ -99,6 +102,7 @@ DEFAULTS = {
     "letters": 4,
     "repertoire": "1",
     "on-limit": "stop",
+    "first": 3,
     "model": "",
     "log": "-",
     "word": None,
@@ -164,6 +168,7 @@ def settings(words):
     command, *rest = words
     texts = Taken(*COMMANDS[command]).all(rest)
     found = DEFAULTS | texts | {"command": command}
+    found["log"] = texts.get("second", found["log"])
     for name in sorted(texts.keys() & PLACES.keys(), key=PLACES.get):
         found[name] = MEANINGS[name](texts[name])
         if found[name] is None:

@@ -1,4 +1,4 @@
-//! Logs that are checked against a model, and one that is generated and mined.
+//! Logs that are checked against a model, models that are compared and analysed, and a log that is generated and mined.
 use crate::tests::{CALM, Ran, run_on, run_with};
 use decl_base::{Name, Status};
 use decl_outside::MemInputs;
@@ -61,6 +61,101 @@ fn checks_are_told(rt: HostRuntime) -> Result<(), Fail> {
     let ran = run_with(rt.alloc(), "regex Response ba", b"", CALM)?;
     assert_eq!(rt; ran.status, Status::Differs);
     assert_eq!(rt; ran.out.bytes(), b"no\n".as_slice());
+    Ok(())
+}
+
+const END: &[u8] = b"{\"constraints\":[{\"template\":\"End\",\"parameters\":[[\"a\"]]}]}";
+
+const CHAIN: &[u8] =
+    b"{\"constraints\":[{\"template\":\"ChainResponse\",\"parameters\":[[\"a\"],[\"b\"]]}]}";
+
+const ALTERNATE: &[u8] =
+    b"{\"constraints\":[{\"template\":\"AlternateResponse\",\"parameters\":[[\"a\"],[\"b\"]]}]}";
+
+/// The same traces keep it as keep the one above, since a name that no constraint has is like any other.
+const NAMED: &[u8] =
+    b"{\"tasks\":[\"z\",\"b\",\"a\"],\"constraints\":[{\"template\":\"AlternateResponse\",\"parameters\":[[\"a\"],[\"b\"]]}]}";
+
+const WITH_MORE: &[u8] =
+    b"{\"constraints\":[{\"template\":\"Init\",\"parameters\":[[\"a\"]]},{\"template\":\"NotCoExistence\",\"parameters\":[[\"a\"],[\"b\"]]},{\"template\":\"Participation\",\"parameters\":[[\"a\"]]}]}";
+
+#[test]
+fn models_are_compared_and_analysed(rt: HostRuntime) -> Result<(), Fail> {
+    let cases: [(&str, &[u8], &[u8], Status, &str); 5] = [
+        (
+            "compare m -",
+            CHAIN,
+            ALTERNATE,
+            Status::Differs,
+            "stronger\nonly first -\nonly second [\"a\",null,\"b\"]\n",
+        ),
+        (
+            "compare m -",
+            INIT,
+            END,
+            Status::Differs,
+            "neither\nonly first [\"a\",null]\nonly second [null,\"a\"]\n",
+        ),
+        (
+            "compare m -",
+            NAMED,
+            ALTERNATE,
+            Status::Done,
+            "equal\nonly first -\nonly second -\n",
+        ),
+        (
+            "analyse m",
+            WITH_MORE,
+            b"",
+            Status::Done,
+            "accepts [\"a\"]\ndead [\"b\"]\nredundant [3]\ntrace [\"a\"]\ntrace [\"a\",\"a\"]\ntrace [\"a\",null]\n",
+        ),
+        (
+            "analyse m --first 1",
+            INIT,
+            b"",
+            Status::Done,
+            "accepts [\"a\"]\ndead []\nredundant []\ntrace [\"a\"]\n",
+        ),
+    ];
+    for (words, first, second, status, want) in cases {
+        let ran = run_check(rt.alloc(), words, first, second)?;
+        assert_eq!(rt; ran.status, status);
+        assert_eq!(rt; ran.out.bytes(), want.as_bytes());
+        assert!(rt; ran.err.bytes().is_empty());
+    }
+    Ok(())
+}
+
+/// A first model is refused before a second is opened, and too many states after both.
+#[test]
+fn models_are_not_compared(rt: HostRuntime) -> Result<(), Fail> {
+    let cases: [(&str, &[u8], Status, &str); 3] = [
+        (
+            "compare m nosuch",
+            b"{",
+            Status::BadModel,
+            "minerful: the model is not JSON\n",
+        ),
+        (
+            "compare m nosuch --max-states 1",
+            CHAIN,
+            Status::ReadFault,
+            "minerful: read fault\n",
+        ),
+        (
+            "compare m - --max-states 1",
+            CHAIN,
+            Status::Limit,
+            "minerful: too many states, phase 5, constraints 1\n",
+        ),
+    ];
+    for (words, first, status, line) in cases {
+        let ran = run_check(rt.alloc(), words, first, ALTERNATE)?;
+        assert_eq!(rt; ran.status, status);
+        assert!(rt; ran.out.bytes().is_empty());
+        assert_eq!(rt; ran.err.bytes(), line.as_bytes());
+    }
     Ok(())
 }
 

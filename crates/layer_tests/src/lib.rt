@@ -25,3 +25,5 @@ mod products;
 mod reductions;
 #[cfg(test)]
 mod string_logs;
+#[cfg(test)]
+mod words;

@@ -5,17 +5,21 @@ use Rattle.std.proofs.Math.Seq.{take-nil}
 use Rattle.std.specs.List.{list_any, position, position_or_len}
 use Rattle.std.specs.Prelude.{fold, is_some, option_map, if◌then◌else◌}
 use Rattle.decl_base.specs.declared.refusal.Refusal.{Refusal}
+use Rattle.decl_base.specs.declared.refusal.Refusal.TheVariants.{Memory, States}
 use Rattle.decl_base.specs.declared.status.Status.TheVariants as status
 use Rattle.decl_outside.specs.Faults.{Rose}
 use Rattle.decl_outside.specs.Inputs.{FailedIn, InputState, noted}
+use Rattle.model_compare.specs.Comparison.{IsCompared, RefusesComparing}
 use Rattle.model_json.specs.Model.{Known}
 use Rattle.minerful_words.specs.declared.settings.Settings.{Settings}
 use Rattle.template_core.specs.declared.constraint.Constraint.{Constraint}
 use Rattle.report_text.specs.CheckTable.{check_table_text}
+use Rattle.report_text.specs.ComparisonText.{comparison_text}
 use Rattle.trace_check.specs.Checking.{checked}
 use Rattle.trace_check.specs.declared.checked.Checked.{Checked}
 use Rattle.minerful_core.specs.Commands.{OfContents}
-use Rattle.minerful_core.specs.Outcome.{Outcome, answers, refuses, is_broken_by, keeps_named, log_in, model_in, IsCheckOutcome, IsOutcomeOf}
+use Rattle.minerful_core.specs.Models.{constraints_over, names_of_both, symbols_of}
+use Rattle.minerful_core.specs.Outcome.{Outcome, answers, refuses, is_broken_by, keeps_named, model_in, status_of_relation, IsAnswered, IsCheckOutcome, IsComparisonOutcome, IsOutcomeOf}
 use Rattle.minerful_core.specs.Refusing.{MayRefuse}
 use Rattle.minerful_core.specs.Run.{AsksFor, InputFailed}
 use Rattle.minerful_core.proofs.Answering.{told_only}
@@ -78,38 +82,70 @@ module _ (first second : List ℕ) (old mid new : InputState) where
       go zero e = (1, e ∙ asked)
       go (suc n) e = (2, e ∙ ap (fold noted (noted mid.names second)) (take-nil n) ∙ ap (λ names. noted names second) asked)
 
--- ---- the outcome of a check
+-- ---- the outcome of a model and of what is read behind it
 
-module _ (s : Settings) (old mid new : InputState) where
+module _ {B : Type 0} (IsBoth : Known → B → Outcome → Type 0) (second : (List ℕ → List ℕ) → Result B Refusal) (s : Settings) (old mid new : InputState) where
   abbrev Is : (List ℕ → List ℕ) → Outcome → Type 0
-  Is contents o = IsOutcomeOf (λ model. IsOutcomeOf (IsCheckOutcome model) (log_in s contents)) (model_in s contents) o
+  Is contents o = IsOutcomeOf (λ model. IsOutcomeOf (IsBoth model) (second contents)) (model_in s contents) o
 
-  abbrev MayRefuseCheck : Refusal → Type 0
-  MayRefuseCheck = MayRefuse (InputFailed (s.model ∷ s.log ∷ []) old new) (λ r. OfContents (s.model ∷ s.log ∷ []) old (λ contents. Is contents (refuses r)))
+  abbrev MayRefuseBoth : Refusal → Type 0
+  MayRefuseBoth = MayRefuse (InputFailed (s.model ∷ s.log ∷ []) old new) (λ r. OfContents (s.model ∷ s.log ∷ []) old (λ contents. Is contents (refuses r)))
 
   abbrev HasModel : Known → Type 0
   HasModel model = IfSome old.contents (λ contents. model_in s contents ≡ Ok model)
 
-  both : (model : Known) (contents : List ℕ → List ℕ) (found : Result (List (List (List ℕ))) Refusal) (o : Outcome) → model_in s contents ≡ Ok model → log_in s contents ≡ found
-      → IsOutcomeOf (IsCheckOutcome model) found o → Is contents o
-  both model contents found o model_is log_is h =
-      subst (λ m. IsOutcomeOf (λ model. IsOutcomeOf (IsCheckOutcome model) (log_in s contents)) m o) (sym model_is) (subst (λ l. IsOutcomeOf (IsCheckOutcome model) l o) (sym log_is) h)
+  abbrev HasSecond : Result B Refusal → Type 0
+  HasSecond found = IfSome mid.contents (λ contents. second contents ≡ found)
+
+  both : (model : Known) (contents : List ℕ → List ℕ) (found : Result B Refusal) (o : Outcome) → model_in s contents ≡ Ok model → second contents ≡ found
+      → IsOutcomeOf (IsBoth model) found o → Is contents o
+  both model contents found o model_is second_is h =
+      subst (λ m. IsOutcomeOf (λ model. IsOutcomeOf (IsBoth model) (second contents)) m o) (sym model_is) (subst (λ l. IsOutcomeOf (IsBoth model) l o) (sym second_is) h)
 
   -- the outcome of a model and of what was found behind it
-  of_both : (model : Known) (found : Result (List (List (List ℕ))) Refusal) (o : Outcome) → HasModel model → mid.contents ≡ old.contents
-      → IfSome mid.contents (λ contents. log_in s contents ≡ found) → IsOutcomeOf (IsCheckOutcome model) found o → OfContents (s.model ∷ s.log ∷ []) old (λ contents. Is contents o)
-  of_both model found o has_model same has_log h =
+  pub of_both : (model : Known) (found : Result B Refusal) (o : Outcome) → HasModel model → mid.contents ≡ old.contents → HasSecond found → IsOutcomeOf (IsBoth model) found o
+      → OfContents (s.model ∷ s.log ∷ []) old (λ contents. Is contents o)
+  of_both model found o has_model same has_second h =
       told_only s.model (s.log ∷ []) old (λ contents. Is contents o)
-      (go old.contents has_model (subst (λ told. IfSome told (λ contents. log_in s contents ≡ found)) same has_log))
+      (go old.contents has_model (subst (λ told. IfSome told (λ contents. second contents ≡ found)) same has_second))
     where
-      go : (told : Option (List ℕ → List ℕ)) → IfSome told (λ contents. model_in s contents ≡ Ok model) → IfSome told (λ contents. log_in s contents ≡ found) → IfSome told (λ contents. Is contents o)
+      go : (told : Option (List ℕ → List ℕ)) → IfSome told (λ contents. model_in s contents ≡ Ok model) → IfSome told (λ contents. second contents ≡ found) → IfSome told (λ contents. Is contents o)
       go None m l = tt
       go (Some contents) m l = both model contents found o m l h
 
-  -- what has no log is refused behind the model
-  pub no_log_behind : (model : Known) (r : Refusal) → HasModel model → mid.contents ≡ old.contents → old.faults ≤ mid.faults
-      → MayRefuse (FailedIn (Some s.log) mid new) (λ r. IfSome mid.contents (λ contents. log_in s contents ≡ Err r)) r → MayRefuseCheck r
-  no_log_behind model r has_model same later h =
-      MayRefuse-weaker (FailedIn (Some s.log) mid new) (InputFailed (s.model ∷ s.log ∷ []) old new) (λ r. IfSome mid.contents (λ contents. log_in s contents ≡ Err r))
+  -- what can't be read behind the model is refused
+  pub none_behind : (model : Known) (r : Refusal) → HasModel model → mid.contents ≡ old.contents → old.faults ≤ mid.faults
+      → MayRefuse (FailedIn (Some s.log) mid new) (λ r. HasSecond (Err r)) r → MayRefuseBoth r
+  none_behind model r has_model same later h =
+      MayRefuse-weaker (FailedIn (Some s.log) mid new) (InputFailed (s.model ∷ s.log ∷ []) old new) (λ r. HasSecond (Err r))
       (λ r. OfContents (s.model ∷ s.log ∷ []) old (λ contents. Is contents (refuses r))) (λ failed. (s.log, (1, omega arith, refl), failed_later (Some s.log) old mid new later failed))
-      (λ r has_log. of_both model (Err r) (refuses r) has_model same has_log refl) r h
+      (λ r has_second. of_both model (Err r) (refuses r) has_model same has_second refl) r h
+
+  -- what is refused of both
+  pub refused_of_both : (model : Known) (found : B) (r : Refusal) → HasModel model → mid.contents ≡ old.contents → HasSecond (Ok found)
+      → MayRefuse ⊥ (λ r. IsBoth model found (refuses r)) r → MayRefuseBoth r
+  refused_of_both model found r has_model same has_second h =
+      MayRefuse-weaker ⊥ (InputFailed (s.model ∷ s.log ∷ []) old new) (λ r. IsBoth model found (refuses r))
+      (λ r. OfContents (s.model ∷ s.log ∷ []) old (λ contents. Is contents (refuses r))) (λ no. absurd no)
+      (λ r is. of_both model (Ok found) (refuses r) has_model same has_second is) r h
+
+-- ---- the outcome of two models
+
+module _ (states : ℕ) (first second : Known) where
+  abbrev IsOver : List (List ℕ) → ℕ → List Constraint → List Constraint → Outcome → Type 0
+  IsOver names n one other o =
+      IsAnswered (IsCompared n states one other) (RefusesComparing n states one other) (λ comparison. answers (status_of_relation comparison.relation) (comparison_text names comparison)) o
+
+  module _ (names : List (List ℕ)) (n : ℕ) (one other : List Constraint) (names_are : names ≡ names_of_both first second) (n_is : n ≡ symbols_of names)
+      (one_is : one ≡ constraints_over names first) (other_is : other ≡ constraints_over names second) where
+    -- the outcome over names, symbols and lists that are those of the models
+    pub outcome_of_two : (o : Outcome) → IsOver names n one other o → IsComparisonOutcome states first second o
+    outcome_of_two o h =
+        subst (λ l. IsOver l (symbols_of l) (constraints_over l first) (constraints_over l second) o) names_are
+        (subst (λ k. IsOver names k (constraints_over names first) (constraints_over names second) o) n_is
+        (subst (λ l. IsOver names n l (constraints_over names second) o) one_is (subst (λ l. IsOver names n one l o) other_is h)))
+
+    pub refusal_of_two : (r : Refusal) → RefusesComparing n states one other r → MayRefuse ⊥ (λ r. IsComparisonOutcome states first second (refuses r)) r
+    refusal_of_two (States phase built) h = outcome_of_two (refuses (States phase built)) h
+    refusal_of_two Memory h = tt
+    refusal_of_two r h = absurd h

@@ -7,7 +7,7 @@ use Rattle.decl_base.specs.declared.refusal.Refusal.TheVariants as refusal
 use Rattle.decl_base.specs.declared.status.Status.TheVariants as status
 use Rattle.event_log.specs.Logs.{by_ranks, events_of, sorted_names}
 use Rattle.minerful_words.specs.declared.settings.Command.{Command}
-use Rattle.minerful_words.specs.declared.settings.Command.TheVariants.{Mine, Kb, Check, Gen, Sample, Regex}
+use Rattle.minerful_words.specs.declared.settings.Command.TheVariants.{Mine, Kb, Check, Gen, Sample, Compare, Analyse, Regex}
 use Rattle.minerful_words.specs.declared.settings.Settings.{Settings}
 use Rattle.minerful_words.specs.declared.settings.Stage.{Stage}
 use Rattle.minerful_words.specs.declared.settings.Stage.TheVariants.{Consistent, Model, Scores}
@@ -76,4 +76,6 @@ module _ (log other : List (List (List ℕ))) (h : HoldTheSame log other) where
   outcome_same Sample s o is = mined_same (IsModelOutcome false (summary_text s.seed) s.states) s o (λ list. model_same false (summary_text s.seed) s.states list o) is
   outcome_same Check s o is = absurd is
   outcome_same Gen s o is = absurd is
+  outcome_same Compare s o is = absurd is
+  outcome_same Analyse s o is = absurd is
   outcome_same Regex s o is = absurd is

@@ -32,7 +32,7 @@ pub(crate) fn check_log<I: Inputs>(
     ensures contents { (I.state inputs.new).contents ≡ (I.state inputs.old).contents }
     ensures later { (I.state inputs.old).faults ≤ (I.state inputs.new).faults }
 {
-    let model = read_known_model(alloc, settings, inputs)?;
+    let model = read_known_model(alloc, &settings.model, inputs)?;
     let (names, log) = read_log(alloc, settings, inputs)?;
     compare(alloc, &model, &names, &log)
 }

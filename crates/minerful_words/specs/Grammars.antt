@@ -57,6 +57,10 @@ most_length = 1000
 abbrev pub most_letters : ℕ
 most_letters = 26
 
+-- the greatest number of traces that an analysis lists
+abbrev pub most_listed : ℕ
+most_listed = 20
+
 unfoldable pub format_of : List ℕ → Option Format
 format_of text =
     if bytes_eq text (codes "string") then Some format.Strings

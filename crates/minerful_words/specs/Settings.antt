@@ -1,5 +1,5 @@
 -- The settings that the words of the command line give, or the place of their fault.
-use Rattle.std.specs.Prelude.{◌≡◌, ◌≤◌, ◌*◌, ℕ, List, [], ◌∷◌, codes, Bool, false, ◌&&◌, nat_le, Option, Some, None, IsSome, Result, Ok, Err, unwrap_or, option_map, if◌then◌else◌}
+use Rattle.std.specs.Prelude.{◌≡◌, ◌≤◌, ◌*◌, ℕ, List, [], ◌∷◌, codes, Bool, true, false, ◌&&◌, nat_le, Option, Some, None, IsSome, Result, Ok, Err, unwrap_or, option_map, if◌then◌else◌}
 use Rattle.std.specs.Option.{ok_or}
 use Rattle.std.specs.Str.{bytes_eq}
 use Rattle.clap.specs.Words.{Row, Text, first_of}
@@ -13,11 +13,11 @@ use Rattle.log_columns.specs.declared.OrderAs.TheVariants as order
 use Rattle.template_core.specs.declared.kind.Kind.{Kind}
 use Rattle.template_core.specs.declared.repertoire.Repertoire.TheVariants as repertoire
 use Rattle.minerful_words.specs.Apps.{app_for, taken}
-use Rattle.minerful_words.specs.Grammars.{IsBetween, number_between, most_states, most_seed, most_traces, most_length, most_letters, format_of, order_as_of, stage_of, out_of, repertoire_of, keep_of}
+use Rattle.minerful_words.specs.Grammars.{IsBetween, number_between, most_states, most_seed, most_traces, most_length, most_letters, most_listed, format_of, order_as_of, stage_of, out_of, repertoire_of, keep_of}
 use Rattle.minerful_words.specs.Templates.{kind_named, is_word_if_any}
 use Rattle.minerful_words.specs.Table.{OptionRow, options, row_named, takes, is_command}
 use Rattle.minerful_words.specs.declared.settings.Command.{Command}
-use Rattle.minerful_words.specs.declared.settings.Command.TheVariants.{Mine, Kb, Check, Gen, Sample, Regex}
+use Rattle.minerful_words.specs.declared.settings.Command.TheVariants.{Mine, Kb, Check, Gen, Sample, Compare, Analyse, Regex}
 use Rattle.minerful_words.specs.declared.settings.Format.TheVariants as format
 use Rattle.minerful_words.specs.declared.settings.Stage.TheVariants as stage
 use Rattle.minerful_words.specs.declared.settings.Out.TheVariants as out
@@ -69,6 +69,7 @@ without_options command found = record {
   letters = 4;
   repertoire = repertoire.First;
   keep = false;
+  first = 3;
   word = first_of (codes "word") found;
 }
 
@@ -96,6 +97,7 @@ put field.Length text s = option_map (λ v. record s { length = v }) (number_bet
 put field.Letters text s = option_map (λ v. record s { letters = v }) (number_between 1 most_letters text)
 put field.Repertoire text s = option_map (λ v. record s { repertoire = v }) (repertoire_of text)
 put field.OnLimit text s = option_map (λ v. record s { keep = v }) (keep_of text)
+put field.First text s = option_map (λ v. record s { first = v }) (number_between 0 most_listed text)
 
 -- the text of an option among those found: none where the command doesn't take it
 abbrev pub text_for : Command → List Row → OptionRow → Option Text
@@ -115,9 +117,15 @@ with_texts (option ∷ rest) command found s = do
 
 -- ---- what the settings have together
 
--- the command checks, and both its model and its log are standard input
+-- the commands of two inputs
+abbrev pub reads_two : Command → Bool
+reads_two Check = true
+reads_two Compare = true
+reads_two _ = false
+
+-- the command has two inputs, and both are standard input
 abbrev pub reads_standard_input_twice : Settings → Bool
-reads_standard_input_twice s = is_command Check s.command && bytes_eq s.model standard_input && bytes_eq s.log standard_input
+reads_standard_input_twice s = reads_two s.command && bytes_eq s.model standard_input && bytes_eq s.log standard_input
 
 -- the greatest number of events that a log may be generated with
 abbrev pub most_events : ℕ
@@ -144,9 +152,9 @@ unfoldable pub settings_in : Command → List Row → Result Settings ℕ
 settings_in command found = with_texts options command found (without_options command found) >>= together
 
 -- The settings, or a number: 0 where the first word names no command; else 1 where the command doesn't take the
--- words; else the least number of an option whose text isn't in its grammar; else 17 where a check reads standard
--- input twice; else 18 where a generated log may have too many events; else 22 where an expression is asked for and the
--- name is no template's; else 23 where its word is too long or has a letter that the template doesn't have.
+-- words; else the least number of an option whose text isn't in its grammar; else 17 where a command of two inputs reads
+-- standard input twice; else 18 where a generated log may have too many events; else 22 where an expression is asked for
+-- and the name is no template's; else 23 where its word is too long or has a letter that the template doesn't have.
 unfoldable pub settings : List Text → Result Settings ℕ
 settings [] = Err 0
 settings (word ∷ words) = do
@@ -161,6 +169,8 @@ inputs_for Kb settings = settings.log ∷ []
 inputs_for Check settings = settings.model ∷ settings.log ∷ []
 inputs_for Gen settings = []
 inputs_for Sample settings = []
+inputs_for Compare settings = settings.model ∷ settings.log ∷ []
+inputs_for Analyse settings = settings.model ∷ []
 inputs_for Regex settings = []
 
 -- the names of the inputs that a command with these settings reads

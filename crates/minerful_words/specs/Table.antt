@@ -4,7 +4,7 @@ use Rattle.std.specs.List.{list_any}
 use Rattle.std.specs.Str.{bytes_eq}
 use Rattle.clap.specs.Words.{Text}
 use Rattle.minerful_words.specs.declared.settings.Command.{Command}
-use Rattle.minerful_words.specs.declared.settings.Command.TheVariants.{Mine, Kb, Check, Gen, Sample, Regex}
+use Rattle.minerful_words.specs.declared.settings.Command.TheVariants.{Mine, Kb, Check, Gen, Sample, Compare, Analyse, Regex}
 use Rattle.minerful_words.specs.declared.table.Field.{Field}
 use Rattle.minerful_words.specs.declared.table.Field.TheVariants as field
 
@@ -37,6 +37,14 @@ reading = Mine ∷ Kb ∷ Check ∷ []
 abbrev mining : List Command
 mining = Mine ∷ []
 
+-- the commands that make an automaton
+abbrev pub limited : List Command
+limited = Mine ∷ Compare ∷ Analyse ∷ []
+
+-- the commands that list the first traces of a model
+abbrev pub listing : List Command
+listing = Analyse ∷ []
+
 -- the commands that generate a log
 abbrev generating : List Command
 generating = Gen ∷ Sample ∷ []
@@ -56,7 +64,7 @@ options =
     ∷ option 7 (codes "support") mining field.Support
     ∷ option 8 (codes "confidence") mining field.Confidence
     ∷ option 9 (codes "interest") mining field.Interest
-    ∷ option 10 (codes "max-states") mining field.States
+    ∷ option 10 (codes "max-states") limited field.States
     ∷ option 11 (codes "stage") mining field.Stage
     ∷ option 12 (codes "out") mining field.Out
     ∷ option 13 (codes "seed") generating field.Seed
@@ -65,15 +73,20 @@ options =
     ∷ option 16 (codes "letters") writing field.Letters
     ∷ option 19 (codes "repertoire") mining field.Repertoire
     ∷ option 20 (codes "on-limit") mining field.OnLimit
+    ∷ option 21 (codes "first") listing field.First
     ∷ []
 
--- the model, which must be there; to `regex` it is the name of a template
+-- the model, which must be there; to `compare` it is the first model, to `regex` the name of a template
 abbrev model : PositionalRow
 model = record { name = codes "model"; is_required = true }
 
 -- the log, which need not be there
 abbrev log : PositionalRow
 log = record { name = codes "log"; is_required = false }
+
+-- the second model of a comparison, which must be there; it stands in the log's place
+abbrev pub second_model : PositionalRow
+second_model = record { name = codes "log"; is_required = true }
 
 -- the word that an expression is tried on, which need not be there
 abbrev word : PositionalRow
@@ -86,6 +99,8 @@ commands =
     ∷ record { command = Check; name = codes "check"; positionals = model ∷ log ∷ [] }
     ∷ record { command = Gen; name = codes "gen"; positionals = [] }
     ∷ record { command = Sample; name = codes "sample"; positionals = [] }
+    ∷ record { command = Compare; name = codes "compare"; positionals = model ∷ second_model ∷ [] }
+    ∷ record { command = Analyse; name = codes "analyse"; positionals = model ∷ [] }
     ∷ record { command = Regex; name = codes "regex"; positionals = model ∷ word ∷ [] }
     ∷ []
 
@@ -99,6 +114,8 @@ is_command Kb Kb = true
 is_command Check Check = true
 is_command Gen Gen = true
 is_command Sample Sample = true
+is_command Compare Compare = true
+is_command Analyse Analyse = true
 is_command Regex Regex = true
 is_command _ _ = false
 

@@ -4,7 +4,7 @@ ghost use Rattle.std.specs.Prelude.{◌≡◌, ◌*◌, ◌≤◌, Ok, Some, OnO
 ghost use Rattle.std.specs.Option.{ok_or};
 ghost use Rattle.clap.specs.Words.{found_of, rows_of};
 ghost use Rattle.minerful_words.specs.Rows.{option_row};
-ghost use Rattle.minerful_words.specs.Settings.{Gives, NamesTemplate, Refuses, most_events, put, reads_standard_input_twice, together, with_text, without_options};
+ghost use Rattle.minerful_words.specs.Settings.{Gives, NamesTemplate, Refuses, most_events, put, reads_standard_input_twice, together, reads_two, with_text, without_options};
 ghost use Rattle.minerful_words.specs.Settings.{settings_in as settings_of_found, text_for as text_of_option};
 ghost use Rattle.minerful_words.specs.Steps.{IsBounded};
 
@@ -42,6 +42,9 @@ const MOST_TRACES: u64 = 1_048_575;
 const MOST_LENGTH: u64 = 1_000;
 
 const MOST_LETTERS: u64 = 26;
+
+/// The greatest number of traces that an analysis lists.
+const MOST_LISTED: u64 = 20;
 
 /// The greatest number of events that a log may be generated with.
 const MOST_EVENTS: u64 = 16_777_215;
@@ -128,6 +131,7 @@ impl Settings {
             letters: 4,
             repertoire: Repertoire::First,
             keep: false,
+            first: 3,
             word: name_if_any(alloc, text_of(found, "word"))?,
         })
     }
@@ -175,6 +179,7 @@ impl Settings {
             Field::Letters => self.letters = number_between(text, 1, MOST_LETTERS).ok_or(fault)?,
             Field::Repertoire => self.repertoire = repertoire_numbered(text).ok_or(fault)?,
             Field::OnLimit => self.keep = keep_named(text).ok_or(fault)?,
+            Field::First => self.first = number_between(text, 0, MOST_LISTED).ok_or(fault)? as u32,
         }
         Ok(())
     }
@@ -201,8 +206,17 @@ impl Settings {
     fn reads_standard_input_twice(&self) -> bool
         ensures { result ≡ reads_standard_input_twice self.now }
     {
-        self.command == Command::Check
+        self.command.reads_two()
             && self.model.text() == STANDARD_INPUT
             && self.log.text() == STANDARD_INPUT
+    }
+}
+
+impl Command {
+    /// Whether the command has two inputs.
+    fn reads_two(self) -> bool
+        ensures { result ≡ reads_two self }
+    {
+        matches!(self, Command::Check | Command::Compare)
     }
 }

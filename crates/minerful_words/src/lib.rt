@@ -7,8 +7,6 @@ mod grammars;
 mod settings;
 mod table;
 mod templates;
-#[cfg(test)]
-mod tests;
 
 pub use log_columns::{Columns, OrderAs};
 pub use settings::{Command, Format, Out, Settings, Stage};

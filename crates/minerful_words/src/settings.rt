@@ -1,5 +1,5 @@
-ghost use Rattle.std.specs.Prelude.{◌≡◌, IfOk, map, string_bytes};
-ghost use Rattle.minerful_words.specs.Grammars.{IsLimit, format_of, stage_of, out_of};
+ghost use Rattle.std.specs.Prelude.{◌≡◌, ◌≤◌, IfOk, map, string_bytes};
+ghost use Rattle.minerful_words.specs.Grammars.{IsLimit, most_listed, format_of, stage_of, out_of};
 ghost use Rattle.minerful_words.specs.Settings.{settings, Gives, AreFractions, CanGenerate, NamesTemplate};
 
 use crate::choices::settings_in;
@@ -23,6 +23,10 @@ pub enum Command {
     Gen,
     /// Shows a summary of mining a generated log.
     Sample,
+    /// Compares the traces of two models.
+    Compare,
+    /// Shows what a model's traces are like.
+    Analyse,
     /// Shows the regular expression of a template, or tries it on a word.
     Regex,
 }
@@ -56,10 +60,10 @@ pub enum Out {
 #[derive(Debug, Drop)]
 pub struct Settings {
     pub command: Command,
-    /// The name of the model's input, `-` for standard input; of `regex`, the name of a template. Empty where the command
-    /// takes neither.
+    /// The name of the model's input, `-` for standard input; of `compare`, the first model's. To `regex` it is the name
+    /// of a template. Empty where the command takes none of these.
     pub model: Name,
-    /// The name of the log's input, `-` for standard input.
+    /// The name of the log's input, `-` for standard input; of `compare`, the second model's.
     pub log: Name,
     pub format: Format,
     pub columns: Columns,
@@ -80,6 +84,8 @@ pub struct Settings {
     pub repertoire: Repertoire,
     /// Whether a constraint whose list is too wide is left out or left untested, in place of refusing the log.
     pub keep: bool,
+    /// The number of traces that an analysis lists, up to 20.
+    pub first: u32,
     /// The word that `regex` tries.
     pub word: Option<Name>,
 }
@@ -87,15 +93,16 @@ pub struct Settings {
 impl Settings {
     /// The settings that the words after the program's name give. `Usage` is 0 where the first word names no command,
     /// 1 where the command doesn't take the words, else the least number of an option whose value isn't in its
-    /// grammar, else 17 where a check reads both its model and its log from standard input, else 18 where the
-    /// number of traces times their length is above 16,777,215, else 22 where `regex` has no template's name, and else 23
-    /// where its word has more than 64 characters or one that isn't a letter of the template.
+    /// grammar, else 17 where a command reads both its inputs from standard input, else 18 where the number of traces
+    /// times their length is above 16,777,215, else 22 where `regex` has no template's name, and else 23 where its word has
+    /// more than 64 characters or one that isn't a letter of the template.
     #[tactic(auto, unfolding(crate::specs::Settings::settings))]
     pub fn read(alloc: Global, words: &[String]) -> Result<Settings, Refusal>
         ensures value { Gives result (settings (map string_bytes words.now)) }
         ensures thresholds { IfOk result (λ s. AreFractions s.thresholds) }
         ensures states { IfOk result (λ s. IsLimit s.states) }
         ensures generator { IfOk result (λ s. CanGenerate s.seed s.traces s.length s.letters) }
+        ensures first { IfOk result (λ s. s.first ≤ most_listed) }
         ensures template { IfOk result NamesTemplate }
     {
         let Some(word) = words.first() else {

@@ -26,6 +26,7 @@ pub(crate) enum Field {
     Letters,
     Repertoire,
     OnLimit,
+    First,
 }
 
 /// An option with one text, and the commands that take it.
@@ -56,13 +57,19 @@ const READING: &[Command] = &[Command::Mine, Command::Kb, Command::Check];
 /// The commands that mine a log.
 const MINING: &[Command] = &[Command::Mine];
 
+/// The commands that make an automaton.
+const LIMITED: &[Command] = &[Command::Mine, Command::Compare, Command::Analyse];
+
+/// The commands that list the first traces of a model.
+const LISTING: &[Command] = &[Command::Analyse];
+
 /// The commands that generate a log.
 const GENERATING: &[Command] = &[Command::Gen, Command::Sample];
 
 /// The commands that write the log that they generate.
 const WRITING: &[Command] = &[Command::Gen];
 
-const OPTIONS: [CommandOption; 17] = [
+const OPTIONS: [CommandOption; 18] = [
     CommandOption {
         number: 2,
         name: "format",
@@ -114,7 +121,7 @@ const OPTIONS: [CommandOption; 17] = [
     CommandOption {
         number: 10,
         name: "max-states",
-        commands: MINING,
+        commands: LIMITED,
         field: Field::States,
     },
     CommandOption {
@@ -165,9 +172,15 @@ const OPTIONS: [CommandOption; 17] = [
         commands: MINING,
         field: Field::OnLimit,
     },
+    CommandOption {
+        number: 21,
+        name: "first",
+        commands: LISTING,
+        field: Field::First,
+    },
 ];
 
-/// The model; to `regex`, the name of a template.
+/// The model; to `compare`, the first model; to `regex`, the name of a template.
 const MODEL: Positional = Positional {
     name: "model",
     is_required: true,
@@ -179,13 +192,19 @@ const LOG: Positional = Positional {
     is_required: false,
 };
 
+/// The second model of a comparison, in the log's place.
+const SECOND_MODEL: Positional = Positional {
+    name: "log",
+    is_required: true,
+};
+
 /// The word that an expression is tried on.
 const WORD: Positional = Positional {
     name: "word",
     is_required: false,
 };
 
-const COMMANDS: [CommandForm; 6] = [
+const COMMANDS: [CommandForm; 8] = [
     CommandForm {
         command: Command::Mine,
         name: "mine",
@@ -210,6 +229,16 @@ const COMMANDS: [CommandForm; 6] = [
         command: Command::Sample,
         name: "sample",
         positionals: &[],
+    },
+    CommandForm {
+        command: Command::Compare,
+        name: "compare",
+        positionals: &[MODEL, SECOND_MODEL],
+    },
+    CommandForm {
+        command: Command::Analyse,
+        name: "analyse",
+        positionals: &[MODEL],
     },
     CommandForm {
         command: Command::Regex,

@@ -1,3 +1,4 @@
 pub mod Joined
+pub mod OpenTraces
 mod TableRows
 pub mod Written

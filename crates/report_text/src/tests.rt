@@ -1,9 +1,10 @@
 ghost use Rattle.template_core.specs.Constraints.{IsWellMade, IsWellMadeFor};
 
 use crate::model::listed_table;
-use crate::{scores_table, summary_text};
+use crate::{compared_text, scores_table, summary_text};
 use decl_base::{Frac, Trace};
 use event_log::Alphabet;
+use model_compare::compare;
 use reduce_model::{Decision, reduce};
 use scoring::Scored;
 use std::test::Fail;
@@ -65,6 +66,33 @@ fn counted_outcomes(rt: HostRuntime) -> Result<(), Fail> {
     let text = summary_text(rt.alloc(), 7, 1, 1, 1, &reduced)?;
     let expected =
         "seed 7\ntraces 1\nevents 1\ntasks 1\ncandidates 4\nlisted 2\nconflict 0\nweaker 1\nfirst-pass 1\nsecond-pass 0\n";
+    assert_eq!(rt; text.as_slice(), expected.as_bytes());
+    Ok(())
+}
+
+// A constraint of two activities, beside one name more.
+fn of_two(kind: Kind) -> Constraint
+    requires { IsWellMade kind 0 1 }
+    ensures { IsWellMadeFor 3 result }
+{
+    Constraint {
+        kind,
+        first: 0,
+        second: 1,
+    }
+}
+
+/// Two models over two names compared, of which the first asks for more.
+#[test]
+fn compared_models(rt: HostRuntime) -> Result<(), Fail> {
+    let mut names = Alphabet::new(rt.alloc(), 1_000);
+    names.add("a")?;
+    names.add("b")?;
+    let chain = [of_two(Kind::ChainResponse)];
+    let alternate = [of_two(Kind::AlternateResponse)];
+    let compared = compare(rt.alloc(), &chain, &alternate, 3, 100)?;
+    let text = compared_text(rt.alloc(), &names, &compared)?;
+    let expected = "stronger\nonly first -\nonly second [\"a\",null,\"b\"]\n";
     assert_eq!(rt; text.as_slice(), expected.as_bytes());
     Ok(())
 }

@@ -1,0 +1,85 @@
+ghost use Rattle.std.specs.Prelude.{◌≡◌, ◌++◌, option_map, IfOk, IfErr, OnOk};
+ghost use Rattle.report_text.specs.ComparisonText.{comparison_text, trace_line, trace_or_dash, verdict_line, verdict_of};
+
+use crate::open_traces::put_open_trace;
+use decl_base::{Refusal, Trace};
+use event_log::Alphabet;
+use model_compare::{Compared, Relation};
+use std::alloc::{AllocError, Global};
+
+/// The text of two models compared over these names and one name more: three lines, each ended by a line feed. The verdict, and for each model the
+/// least trace that keeps it alone, as a JSON list with `null` for the further name, or `-` where there is none.
+pub fn compared_text(
+    alloc: Global,
+    names: &Alphabet,
+    compared: &Compared,
+) -> Result<Vec<u8>, Refusal>
+    ensures ok { IfOk result (λ text. text.items ≡ comparison_text names.now.names compared.now) }
+    ensures err { IfErr result (λ e. e ≡ Refusal.Memory) }
+{
+    let mut out = Vec::new(alloc);
+    put_verdict(&mut out, compared.relation())?;
+    put_line(alloc, &mut out, names, "only first", compared.only_first())?;
+    put_line(
+        alloc,
+        &mut out,
+        names,
+        "only second",
+        compared.only_second(),
+    )?;
+    Ok(out)
+}
+
+/// The line of what the first model is to the second.
+fn put_verdict(out: &mut Vec<u8>, relation: Relation) -> Result<(), AllocError>
+    ensures { OnOk result (out.new.items ≡ out.old.items ++ verdict_line relation) }
+{
+    out.extend_from_slice(verdict(relation).as_bytes())?;
+    out.push(b'\n')?;
+    Ok(())
+}
+
+/// What the first model is to the second.
+fn verdict(relation: Relation) -> &'static str
+    ensures { result.now ≡ verdict_of relation }
+{
+    match relation {
+        Relation::Equal => "equal",
+        Relation::Stronger => "stronger",
+        Relation::Weaker => "weaker",
+        Relation::Neither => "neither",
+    }
+}
+
+/// A line of a word and a trace.
+fn put_line(
+    alloc: Global,
+    out: &mut Vec<u8>,
+    names: &Alphabet,
+    word: &str,
+    trace: Option<&Trace>,
+) -> Result<(), AllocError>
+    ensures { OnOk result (out.new.items ≡ out.old.items ++ trace_line names.now.names word.now (option_map (λ t. t.now) trace.entry)) }
+{
+    out.extend_from_slice(word.as_bytes())?;
+    out.push(b' ')?;
+    put_trace(alloc, out, names, trace)?;
+    out.push(b'\n')?;
+    Ok(())
+}
+
+/// A trace over the names and the symbol behind them, or `-` where there is none.
+fn put_trace(
+    alloc: Global,
+    out: &mut Vec<u8>,
+    names: &Alphabet,
+    trace: Option<&Trace>,
+) -> Result<(), AllocError>
+    ensures { OnOk result (out.new.items ≡ out.old.items ++ trace_or_dash names.now.names (option_map (λ t. t.now) trace.entry)) }
+{
+    match trace {
+        Some(trace) => put_open_trace(alloc, out, names, trace)?,
+        None => out.push(b'-')?,
+    }
+    Ok(())
+}

@@ -1,5 +1,5 @@
 ghost use Rattle.std.specs.Prelude.{◌≡◌, ◌++◌, option_map, IfOk, IfErr, OnOk};
-ghost use Rattle.report_text.specs.ComparisonText.{comparison_text, trace_line, trace_or_dash, verdict_line, verdict_of};
+ghost use Rattle.report_text.specs.ComparisonText.{comparison_text, trace_line, trace_or_dash, relation_line, relation_name};
 
 use crate::open_traces::put_open_trace;
 use decl_base::{Refusal, Trace};
@@ -7,7 +7,7 @@ use event_log::Alphabet;
 use model_compare::{Compared, Relation};
 use std::alloc::{AllocError, Global};
 
-/// The text of two models compared over these names and one name more: three lines, each ended by a line feed. The verdict, and for each model the
+/// The text of two models compared over these names and one name more: three lines, each ended by a line feed: what the first model is to the second, and for each model the
 /// least trace that keeps it alone, as a JSON list with `null` for the further name, or `-` where there is none.
 pub fn compared_text(
     alloc: Global,
@@ -18,7 +18,7 @@ pub fn compared_text(
     ensures err { IfErr result (λ e. e ≡ Refusal.Memory) }
 {
     let mut out = Vec::new(alloc);
-    put_verdict(&mut out, compared.relation())?;
+    put_relation(&mut out, compared.relation())?;
     put_line(alloc, &mut out, names, "only first", compared.only_first())?;
     put_line(
         alloc,
@@ -31,17 +31,17 @@ pub fn compared_text(
 }
 
 /// The line of what the first model is to the second.
-fn put_verdict(out: &mut Vec<u8>, relation: Relation) -> Result<(), AllocError>
-    ensures { OnOk result (out.new.items ≡ out.old.items ++ verdict_line relation) }
+fn put_relation(out: &mut Vec<u8>, relation: Relation) -> Result<(), AllocError>
+    ensures { OnOk result (out.new.items ≡ out.old.items ++ relation_line relation) }
 {
-    out.extend_from_slice(verdict(relation).as_bytes())?;
+    out.extend_from_slice(relation_name(relation).as_bytes())?;
     out.push(b'\n')?;
     Ok(())
 }
 
 /// What the first model is to the second.
-fn verdict(relation: Relation) -> &'static str
-    ensures { result.now ≡ verdict_of relation }
+fn relation_name(relation: Relation) -> &'static str
+    ensures { result.now ≡ relation_name relation }
 {
     match relation {
         Relation::Equal => "equal",

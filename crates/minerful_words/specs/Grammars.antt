@@ -80,7 +80,8 @@ stage_of text =
 unfoldable pub out_of : List ℕ → Option Out
 out_of text =
     if bytes_eq text (codes "json") then Some out.Json
-    else (if bytes_eq text (codes "table") then Some out.Table else None)
+    else (if bytes_eq text (codes "table") then Some out.Table
+    else (if bytes_eq text (codes "cert") then Some out.Cert else None))
 
 unfoldable pub repertoire_of : List ℕ → Option Repertoire
 repertoire_of text =

@@ -1,5 +1,5 @@
 -- The settings that the words of the command line give, or the place of their fault.
-use Rattle.std.specs.Prelude.{◌≡◌, ◌≤◌, ◌*◌, ℕ, List, [], ◌∷◌, codes, Bool, true, false, ◌&&◌, nat_le, Option, Some, None, IsSome, Result, Ok, Err, unwrap_or, option_map, if◌then◌else◌}
+use Rattle.std.specs.Prelude.{◌≡◌, ◌≤◌, ◌*◌, ℕ, List, [], ◌∷◌, codes, Bool, true, false, ◌&&◌, not, nat_le, Option, Some, None, IsSome, Result, Ok, Err, unwrap_or, option_map, if◌then◌else◌}
 use Rattle.std.specs.Option.{ok_or}
 use Rattle.std.specs.Str.{bytes_eq}
 use Rattle.clap.specs.Words.{Row, Text, first_of}
@@ -17,9 +17,11 @@ use Rattle.minerful_words.specs.Grammars.{IsBetween, number_between, most_states
 use Rattle.minerful_words.specs.Templates.{kind_named, is_word_if_any}
 use Rattle.minerful_words.specs.Table.{OptionRow, options, row_named, takes, is_command}
 use Rattle.minerful_words.specs.declared.settings.Command.{Command}
-use Rattle.minerful_words.specs.declared.settings.Command.TheVariants.{Mine, Kb, Check, Gen, Sample, Compare, Analyse, Regex}
+use Rattle.minerful_words.specs.declared.settings.Command.TheVariants.{Mine, Kb, Check, Gen, Sample, Verify, Monitor, Compare, Analyse, Regex}
 use Rattle.minerful_words.specs.declared.settings.Format.TheVariants as format
+use Rattle.minerful_words.specs.declared.settings.Stage.{Stage}
 use Rattle.minerful_words.specs.declared.settings.Stage.TheVariants as stage
+use Rattle.minerful_words.specs.declared.settings.Out.{Out}
 use Rattle.minerful_words.specs.declared.settings.Out.TheVariants as out
 use Rattle.minerful_words.specs.declared.settings.Settings.{Settings}
 use Rattle.minerful_words.specs.declared.table.Field.{Field}
@@ -120,6 +122,7 @@ with_texts (option ∷ rest) command found s = do
 -- the commands of two inputs
 abbrev pub reads_two : Command → Bool
 reads_two Check = true
+reads_two Monitor = true
 reads_two Compare = true
 reads_two _ = false
 
@@ -135,6 +138,12 @@ most_events = 16777215
 abbrev pub is_log_small : Settings → Bool
 is_log_small s = nat_le (s.traces * s.length) most_events
 
+-- a certificate is of the model, with each constraint tested
+abbrev pub can_certify : Out → Stage → Bool → Bool
+can_certify out.Cert stage.Model keep = not keep
+can_certify out.Cert stage keep = false
+can_certify out stage keep = true
+
 -- the template is known, and the word is one of its letters
 abbrev pub with_template : Settings → Option Kind → Result Settings ℕ
 with_template s None = Err 22
@@ -144,17 +153,22 @@ with_template s (Some kind) = if is_word_if_any kind s.word then Ok s else Err 2
 abbrev pub expression_asked : Settings → Result Settings ℕ
 expression_asked s = if is_command Regex s.command then with_template s (kind_named s.model) else Ok s
 
--- standard input is read once, a generated log is small enough, and an expression is that of a template
+-- standard input is read once, a generated log is small enough, a certificate is of a whole model, and an expression is
+-- that of a template
 unfoldable pub together : Settings → Result Settings ℕ
-together s = if reads_standard_input_twice s then Err 17 else (if is_log_small s then expression_asked s else Err 18)
+together s =
+    if reads_standard_input_twice s then Err 17
+    else (if not (is_log_small s) then Err 18
+    else (if can_certify s.out s.stage s.keep then expression_asked s else Err 24))
 
 unfoldable pub settings_in : Command → List Row → Result Settings ℕ
 settings_in command found = with_texts options command found (without_options command found) >>= together
 
 -- The settings, or a number: 0 where the first word names no command; else 1 where the command doesn't take the
 -- words; else the least number of an option whose text isn't in its grammar; else 17 where a command of two inputs reads
--- standard input twice; else 18 where a generated log may have too many events; else 22 where an expression is asked for
--- and the name is no template's; else 23 where its word is too long or has a letter that the template doesn't have.
+-- standard input twice; else 18 where a generated log may have too many events; else 24 where a certificate is asked of
+-- another stage than the model's, or of a run that keeps on at the limit; else 22 where an expression is asked for and
+-- the name is no template's; else 23 where its word is too long or has a letter that the template doesn't have.
 unfoldable pub settings : List Text → Result Settings ℕ
 settings [] = Err 0
 settings (word ∷ words) = do
@@ -169,6 +183,8 @@ inputs_for Kb settings = settings.log ∷ []
 inputs_for Check settings = settings.model ∷ settings.log ∷ []
 inputs_for Gen settings = []
 inputs_for Sample settings = []
+inputs_for Verify settings = settings.model ∷ []
+inputs_for Monitor settings = settings.model ∷ settings.log ∷ []
 inputs_for Compare settings = settings.model ∷ settings.log ∷ []
 inputs_for Analyse settings = settings.model ∷ []
 inputs_for Regex settings = []
@@ -192,6 +208,11 @@ pub record AreFractions (thresholds : Thresholds) : Type 0 where
 -- an expression is asked for a template only
 abbrev pub NamesTemplate : Settings → Type 0
 NamesTemplate s = s.command ≡ Regex → IsSome (kind_named s.model)
+
+-- a certificate is asked of the model only, and of a run that stops at the limit
+pub record CertifiesModel (s : Settings) : Type 0 where
+  pub stage : s.out ≡ out.Cert → s.stage ≡ stage.Model
+  pub keep : s.out ≡ out.Cert → s.keep ≡ false
 
 -- a log can be generated with these numbers: it is within the limits on traces and events, whatever is drawn
 pub record CanGenerate (seed traces length letters : ℕ) : Type 0 where

@@ -4,7 +4,7 @@ use Rattle.std.specs.List.{list_any}
 use Rattle.std.specs.Str.{bytes_eq}
 use Rattle.clap.specs.Words.{Text}
 use Rattle.minerful_words.specs.declared.settings.Command.{Command}
-use Rattle.minerful_words.specs.declared.settings.Command.TheVariants.{Mine, Kb, Check, Gen, Sample, Compare, Analyse, Regex}
+use Rattle.minerful_words.specs.declared.settings.Command.TheVariants.{Mine, Kb, Check, Gen, Sample, Verify, Monitor, Compare, Analyse, Regex}
 use Rattle.minerful_words.specs.declared.table.Field.{Field}
 use Rattle.minerful_words.specs.declared.table.Field.TheVariants as field
 
@@ -39,7 +39,7 @@ mining = Mine ∷ []
 
 -- the commands that make an automaton
 abbrev pub limited : List Command
-limited = Mine ∷ Compare ∷ Analyse ∷ []
+limited = Mine ∷ Monitor ∷ Compare ∷ Analyse ∷ []
 
 -- the commands that list the first traces of a model
 abbrev pub listing : List Command
@@ -76,7 +76,8 @@ options =
     ∷ option 21 (codes "first") listing field.First
     ∷ []
 
--- the model, which must be there; to `compare` it is the first model, to `regex` the name of a template
+-- the model, which must be there; to `verify` it is a certificate, to `compare` the first model, to `regex` the name of
+-- a template
 abbrev model : PositionalRow
 model = record { name = codes "model"; is_required = true }
 
@@ -99,6 +100,8 @@ commands =
     ∷ record { command = Check; name = codes "check"; positionals = model ∷ log ∷ [] }
     ∷ record { command = Gen; name = codes "gen"; positionals = [] }
     ∷ record { command = Sample; name = codes "sample"; positionals = [] }
+    ∷ record { command = Verify; name = codes "verify"; positionals = model ∷ [] }
+    ∷ record { command = Monitor; name = codes "monitor"; positionals = model ∷ log ∷ [] }
     ∷ record { command = Compare; name = codes "compare"; positionals = model ∷ second_model ∷ [] }
     ∷ record { command = Analyse; name = codes "analyse"; positionals = model ∷ [] }
     ∷ record { command = Regex; name = codes "regex"; positionals = model ∷ word ∷ [] }
@@ -114,6 +117,8 @@ is_command Kb Kb = true
 is_command Check Check = true
 is_command Gen Gen = true
 is_command Sample Sample = true
+is_command Verify Verify = true
+is_command Monitor Monitor = true
 is_command Compare Compare = true
 is_command Analyse Analyse = true
 is_command Regex Regex = true

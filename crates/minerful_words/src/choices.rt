@@ -1,10 +1,10 @@
 //! The settings that the texts among the words give.
 
-ghost use Rattle.std.specs.Prelude.{◌≡◌, ◌*◌, ◌≤◌, Ok, Some, OnOk, IfOk, IfErr, option_map};
+ghost use Rattle.std.specs.Prelude.{◌≡◌, ◌*◌, ◌≤◌, Ok, Some, OnOk, IfOk, IfErr, option_map, true};
 ghost use Rattle.std.specs.Option.{ok_or};
 ghost use Rattle.clap.specs.Words.{found_of, rows_of};
 ghost use Rattle.minerful_words.specs.Rows.{option_row};
-ghost use Rattle.minerful_words.specs.Settings.{Gives, NamesTemplate, Refuses, most_events, put, reads_standard_input_twice, together, reads_two, with_text, without_options};
+ghost use Rattle.minerful_words.specs.Settings.{CertifiesModel, Gives, NamesTemplate, Refuses, can_certify, most_events, put, reads_standard_input_twice, together, reads_two, with_text, without_options};
 ghost use Rattle.minerful_words.specs.Settings.{settings_in as settings_of_found, text_for as text_of_option};
 ghost use Rattle.minerful_words.specs.Steps.{IsBounded};
 
@@ -61,6 +61,7 @@ pub(crate) fn settings_in(
     ensures value { Gives result (settings_of_found command (rows_of (found_of found.now))) }
     ensures bounded { IfOk result IsBounded }
     ensures events { IfOk result (λ s. s.traces * s.length ≤ most_events) }
+    ensures certificate { IfOk result CertifiesModel }
     ensures template { IfOk result NamesTemplate }
 {
     let mut settings = Settings::without_options(alloc, command, found)?;
@@ -184,12 +185,13 @@ impl Settings {
         Ok(())
     }
 
-    /// Whether the settings fit together: standard input is read once, a generated log is small enough, and an expression
-    /// is that of a template.
+    /// Whether the settings fit together: standard input is read once, a generated log is small enough, a certificate is of
+    /// a whole model, and an expression is that of a template.
     #[tactic(auto, unfolding(crate::specs::Settings::together))]
     fn fit_together(&self) -> Result<(), Refusal>
         requires { IsBounded self.now }
         ensures ok { OnOk result (together self.now ≡ Ok self.now) }
+        ensures certificate { OnOk result (CertifiesModel self.now) }
         ensures template { OnOk result (NamesTemplate self.now) }
         ensures events { OnOk result (self.now.traces * self.now.length ≤ most_events) }
         ensures err { IfErr result (λ e. Refuses e (together self.now)) }
@@ -199,6 +201,9 @@ impl Settings {
         }
         if self.traces * self.length > MOST_EVENTS {
             return Err(Refusal::Usage { at: 18 });
+        }
+        if !self.can_certify() {
+            return Err(Refusal::Usage { at: 24 });
         }
         self.name_template()
     }
@@ -210,6 +215,17 @@ impl Settings {
             && self.model.text() == STANDARD_INPUT
             && self.log.text() == STANDARD_INPUT
     }
+
+    /// Whether a certificate, where one is asked for, is of the model, with each constraint tested.
+    fn can_certify(&self) -> bool
+        ensures value { result ≡ can_certify self.now.out self.now.stage self.now.keep }
+        ensures certificate { result ≡ true → CertifiesModel self.now }
+    {
+        match self.out {
+            Out::Cert => self.stage == Stage::Model && !self.keep,
+            Out::Json | Out::Table => true,
+        }
+    }
 }
 
 impl Command {
@@ -217,6 +233,6 @@ impl Command {
     fn reads_two(self) -> bool
         ensures { result ≡ reads_two self }
     {
-        matches!(self, Command::Check | Command::Compare)
+        matches!(self, Command::Check | Command::Monitor | Command::Compare)
     }
 }

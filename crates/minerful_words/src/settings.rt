@@ -1,6 +1,6 @@
 ghost use Rattle.std.specs.Prelude.{◌≡◌, ◌≤◌, IfOk, map, string_bytes};
 ghost use Rattle.minerful_words.specs.Grammars.{IsLimit, most_listed, format_of, stage_of, out_of};
-ghost use Rattle.minerful_words.specs.Settings.{settings, Gives, AreFractions, CanGenerate, NamesTemplate};
+ghost use Rattle.minerful_words.specs.Settings.{settings, Gives, AreFractions, CanGenerate, CertifiesModel, NamesTemplate};
 
 use crate::choices::settings_in;
 use crate::clap_command::parse;
@@ -23,6 +23,10 @@ pub enum Command {
     Gen,
     /// Shows a summary of mining a generated log.
     Sample,
+    /// Tries the certificate of a report.
+    Verify,
+    /// Says of each case of a running log how it stands to a model.
+    Monitor,
     /// Compares the traces of two models.
     Compare,
     /// Shows what a model's traces are like.
@@ -54,14 +58,16 @@ pub enum Stage {
 pub enum Out {
     Json,
     Table,
+    /// The JSON report, with a proof that can be tried.
+    Cert,
 }
 
 /// What the words of the command line ask for. What a command doesn't use has its default.
 #[derive(Debug, Drop)]
 pub struct Settings {
     pub command: Command,
-    /// The name of the model's input, `-` for standard input; of `compare`, the first model's. To `regex` it is the name
-    /// of a template. Empty where the command takes none of these.
+    /// The name of the model's input, `-` for standard input; of `verify`, the certificate's, and of `compare`, the first
+    /// model's. To `regex` it is the name of a template. Empty where the command takes none of these.
     pub model: Name,
     /// The name of the log's input, `-` for standard input; of `compare`, the second model's.
     pub log: Name,
@@ -94,8 +100,9 @@ impl Settings {
     /// The settings that the words after the program's name give. `Usage` is 0 where the first word names no command,
     /// 1 where the command doesn't take the words, else the least number of an option whose value isn't in its
     /// grammar, else 17 where a command reads both its inputs from standard input, else 18 where the number of traces
-    /// times their length is above 16,777,215, else 22 where `regex` has no template's name, and else 23 where its word has
-    /// more than 64 characters or one that isn't a letter of the template.
+    /// times their length is above 16,777,215, else 24 where a certificate is asked of another stage than the model's, or
+    /// of a run that keeps on at the limit on states, else 22 where `regex` has no template's name, and else 23 where its
+    /// word has more than 64 characters or one that isn't a letter of the template.
     #[tactic(auto, unfolding(crate::specs::Settings::settings))]
     pub fn read(alloc: Global, words: &[String]) -> Result<Settings, Refusal>
         ensures value { Gives result (settings (map string_bytes words.now)) }
@@ -103,6 +110,7 @@ impl Settings {
         ensures states { IfOk result (λ s. IsLimit s.states) }
         ensures generator { IfOk result (λ s. CanGenerate s.seed s.traces s.length s.letters) }
         ensures first { IfOk result (λ s. s.first ≤ most_listed) }
+        ensures certificate { IfOk result CertifiesModel }
         ensures template { IfOk result NamesTemplate }
     {
         let Some(word) = words.first() else {
@@ -151,6 +159,7 @@ impl Out {
         match text {
             "json" => Some(Out::Json),
             "table" => Some(Out::Table),
+            "cert" => Some(Out::Cert),
             _ => None,
         }
     }

@@ -58,7 +58,12 @@ const READING: &[Command] = &[Command::Mine, Command::Kb, Command::Check];
 const MINING: &[Command] = &[Command::Mine];
 
 /// The commands that make an automaton.
-const LIMITED: &[Command] = &[Command::Mine, Command::Compare, Command::Analyse];
+const LIMITED: &[Command] = &[
+    Command::Mine,
+    Command::Monitor,
+    Command::Compare,
+    Command::Analyse,
+];
 
 /// The commands that list the first traces of a model.
 const LISTING: &[Command] = &[Command::Analyse];
@@ -180,7 +185,7 @@ const OPTIONS: [CommandOption; 18] = [
     },
 ];
 
-/// The model; to `compare`, the first model; to `regex`, the name of a template.
+/// The model; to `verify`, a certificate; to `compare`, the first model; to `regex`, the name of a template.
 const MODEL: Positional = Positional {
     name: "model",
     is_required: true,
@@ -204,7 +209,7 @@ const WORD: Positional = Positional {
     is_required: false,
 };
 
-const COMMANDS: [CommandForm; 8] = [
+const COMMANDS: [CommandForm; 10] = [
     CommandForm {
         command: Command::Mine,
         name: "mine",
@@ -229,6 +234,16 @@ const COMMANDS: [CommandForm; 8] = [
         command: Command::Sample,
         name: "sample",
         positionals: &[],
+    },
+    CommandForm {
+        command: Command::Verify,
+        name: "verify",
+        positionals: &[MODEL],
+    },
+    CommandForm {
+        command: Command::Monitor,
+        name: "monitor",
+        positionals: &[MODEL, LOG],
     },
     CommandForm {
         command: Command::Compare,

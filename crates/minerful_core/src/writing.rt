@@ -2,12 +2,13 @@ ghost use Rattle.std.specs.Prelude.{◌≡◌, ◌<◌, length, count_by, All, I
 ghost use Rattle.model_json.specs.Model.{AreOf};
 ghost use Rattle.model_json.specs.Report.{is_tested};
 ghost use Rattle.template_core.specs.Constraints.{IsWellMadeFor};
-ghost use Rattle.minerful_core.specs.Outcome.{scores_text, consistent_text, model_text};
+ghost use Rattle.minerful_core.specs.Outcome.{certificate_text, scores_text, consistent_text, model_text};
 
+use chain_cert::Chain;
 use decl_base::Refusal;
 use event_log::Alphabet;
 use minerful_words::{Out, Settings};
-use model_json::{consistent_value, report_value, scores_value, text_of};
+use model_json::{certificate_value, consistent_value, report_value, scores_value, text_of};
 use reduce_model::{Reduced, Sifted};
 use report_text::{consistent_table, model_table, scores_table};
 use scoring::Scored;
@@ -28,7 +29,7 @@ pub(crate) fn write_scores(
     ensures err { IfErr result (λ e. e ≡ Refusal.Memory) }
 {
     match settings.out {
-        Out::Json => {
+        Out::Json | Out::Cert => {
             let value = scores_value(alloc, names, settings.repertoire, list, traces, events)?;
             text_of(alloc, &value)
         }
@@ -54,7 +55,7 @@ pub(crate) fn write_consistent(
     ensures err { IfErr result (λ e. e ≡ Refusal.Memory) }
 {
     match settings.out {
-        Out::Json => {
+        Out::Json | Out::Cert => {
             let value = consistent_value(
                 alloc,
                 names,
@@ -90,7 +91,7 @@ pub(crate) fn write_model(
     ensures err { IfErr result (λ e. e ≡ Refusal.Memory) }
 {
     match settings.out {
-        Out::Json => {
+        Out::Json | Out::Cert => {
             let value = report_value(
                 alloc,
                 names,
@@ -104,4 +105,38 @@ pub(crate) fn write_model(
         }
         Out::Table => model_table(alloc, names, list, reduced),
     }
+}
+
+/// The certificate of candidates at stage `model`, over names in byte order.
+pub(crate) fn write_certificate(
+    alloc: Global,
+    settings: &Settings,
+    names: &Alphabet,
+    list: &[Scored],
+    reduced: &Reduced,
+    chain: &Chain,
+    traces: u64,
+    events: u64,
+) -> Result<Vec<u8>, Refusal>
+    requires made { All (λ scored. IsWellMadeFor (length names.now.names) scored.constraint) list.now }
+    requires repertoire { AreOf settings.now.repertoire list.now }
+    requires decisions { length reduced.now.decisions ≡ length list.now }
+    requires witnesses { length reduced.now.witnesses ≡ count_by is_tested reduced.now.decisions }
+    requires witness { All (λ trace. All (λ rank. rank < length names.now.names) trace) reduced.now.witnesses }
+    requires example { All (λ rank. rank < length names.now.names) reduced.now.example }
+    ensures text { IfOk result (λ text. text.items ≡ certificate_text settings.now.repertoire list.now
+        (record { reduction = reduced.now; chain = chain.now }) names.now.names traces events) }
+    ensures err { IfErr result (λ e. e ≡ Refusal.Memory) }
+{
+    let report = report_value(
+        alloc,
+        names,
+        settings.repertoire,
+        list,
+        reduced,
+        traces,
+        events,
+    )?;
+    let certificate = certificate_value(alloc, report, chain)?;
+    text_of(alloc, &certificate)
 }

@@ -6,3 +6,4 @@ pub mod KbTable
 pub mod ModelTable
 pub mod OpenTraces
 pub mod Summary
+pub mod VerdictText

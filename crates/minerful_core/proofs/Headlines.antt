@@ -24,7 +24,7 @@ use Rattle.reduce_model.specs.Within.{IsReductionWithin}
 use Rattle.scoring.specs.Scores.{scored}
 use Rattle.template_core.specs.Constraints.{IsWellMadeFor}
 use Rattle.minerful_core.specs.Headline.{IsHeadline, IsHeadlineWithin, MinesModel, MinesWithin, PrintsModel, PrintsWithin}
-use Rattle.minerful_core.specs.Outcome.{answers, candidates_in, constraints_in, log_in, log_of, model_text, refuses, text_of_log, IsCommandOutcome, IsLogOutcome, IsModelOutcome, IsOutcome, IsOutcomeOf, IsSettingsOutcome, IsStageOutcome}
+use Rattle.minerful_core.specs.Outcome.{answers, candidates_in, constraints_in, log_in, log_of, model_text, refuses, text_of_log, IsCommandOutcome, IsLogOutcome, IsModelOutcome, IsModelOutcomeAs, IsOutcome, IsOutcomeOf, IsSettingsOutcome, IsStageOutcome}
 use Rattle.minerful_core.specs.Run.{WritesOutput}
 use Rattle.minerful_core.proofs.Models.{constraints-staying}
 use Rattle.minerful_core.proofs.Refusing.{told}
@@ -84,7 +84,7 @@ reduced s log text stage out is =
     let list = candidates_in s log in
     let staged = second (nat_lt standard.candidates (length list)) (answers status.Done text ≡ refuses (refusal.Candidates (length list))) (IsStageOutcome s.stage s list log (answers status.Done text)) (λ e. cc) is in
     let modelled : IsStageOutcome Model s list log (answers status.Done text) = subst (λ stage. IsStageOutcome stage s list log (answers status.Done text)) stage staged in
-    subst (λ out. IsModelOutcome s.keep (model_text out s.repertoire list) s.states list log (answers status.Done text)) out modelled
+    subst (λ out. IsModelOutcomeAs out s list log (answers status.Done text)) out modelled
 
 same_text : (text other : List ℕ) → answers status.Done text ≡ answers status.Done other → text ≡ other
 same_text text other e = cc

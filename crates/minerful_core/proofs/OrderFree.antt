@@ -7,7 +7,9 @@ use Rattle.decl_base.specs.declared.refusal.Refusal.TheVariants as refusal
 use Rattle.decl_base.specs.declared.status.Status.TheVariants as status
 use Rattle.event_log.specs.Logs.{by_ranks, events_of, sorted_names}
 use Rattle.minerful_words.specs.declared.settings.Command.{Command}
-use Rattle.minerful_words.specs.declared.settings.Command.TheVariants.{Mine, Kb, Check, Gen, Sample, Compare, Analyse, Regex}
+use Rattle.minerful_words.specs.declared.settings.Command.TheVariants.{Mine, Kb, Check, Gen, Sample, Verify, Compare, Analyse, Regex}
+use Rattle.minerful_words.specs.declared.settings.Out.{Out}
+use Rattle.minerful_words.specs.declared.settings.Out.TheVariants.{Cert, Json, Table}
 use Rattle.minerful_words.specs.declared.settings.Settings.{Settings}
 use Rattle.minerful_words.specs.declared.settings.Stage.{Stage}
 use Rattle.minerful_words.specs.declared.settings.Stage.TheVariants.{Consistent, Model, Scores}
@@ -16,7 +18,7 @@ use Rattle.report_text.specs.KbTable.{kb_text}
 use Rattle.scoring.specs.Candidates.{candidates_of}
 use Rattle.scoring.specs.declared.scored.Scored.{Scored}
 use Rattle.scoring.proofs.ByPair.{length-count}
-use Rattle.minerful_core.specs.Outcome.{LogText, Outcome, answers, candidates_in, consistent_text, constraints_in, model_text, refuses, scores_text, summary_text, text_of_log, IsLogOutcome, IsMinedOutcome, IsModelOutcome, IsReductionBy, IsReported, IsSiftBy, IsStageOutcome, IsTold, RefusesReductionBy, RefusesSiftBy}
+use Rattle.minerful_core.specs.Outcome.{LogText, Outcome, answers, candidates_in, certificate_text, consistent_text, constraints_in, model_text, refuses, scores_text, summary_text, text_of_log, IsCertified, IsCertifiedOutcome, IsLogOutcome, IsMinedOutcome, IsModelOutcome, IsModelOutcomeAs, IsReductionBy, IsReported, IsSiftBy, IsStageOutcome, IsTold, RefusesReductionBy, RefusesSiftBy}
 use Rattle.minerful_core.specs.SameTraces.{HoldTheSame}
 use Rattle.minerful_core.proofs.SameScores.{same_candidates, same_table}
 use Rattle.minerful_core.proofs.SameSums.{ranks_alike, same_events, same_names, same_sums}
@@ -53,6 +55,18 @@ module _ (log other : List (List (List ℕ))) (h : HoldTheSame log other) where
       (λ reduction. text_of_log (text reduction) log) (λ reduction. text_of_log (text reduction) other) (length (sorted_names log)) (length (sorted_names other)) (ap length (same_names log other h))
       (λ reduction. told_same (text reduction)) o is
 
+  certified_same : (s : Settings) (list : List Scored) (o : Outcome) → IsCertifiedOutcome s list log o → IsCertifiedOutcome s list other o
+  certified_same s list o is =
+      let text = certificate_text s.repertoire list in
+      reported_same (λ n certified. IsCertified s.keep n s.states (constraints_in list) certified) (λ n r. RefusesReductionBy s.keep n s.states (constraints_in list) r)
+      (λ certified. text_of_log (text certified) log) (λ certified. text_of_log (text certified) other) (length (sorted_names log)) (length (sorted_names other)) (ap length (same_names log other h))
+      (λ certified. told_same (text certified)) o is
+
+  model_as_same : (out : Out) (s : Settings) (list : List Scored) (o : Outcome) → IsModelOutcomeAs out s list log o → IsModelOutcomeAs out s list other o
+  model_as_same Cert s list o is = certified_same s list o is
+  model_as_same Json s list o is = model_same s.keep (model_text Json s.repertoire list) s.states list o is
+  model_as_same Table s list o is = model_same s.keep (model_text Table s.repertoire list) s.states list o is
+
   stage_same : (stage : Stage) (s : Settings) (list : List Scored) (o : Outcome) → IsStageOutcome stage s list log o → IsStageOutcome stage s list other o
   stage_same Scores s list o is = is ∙ ap (answers status.Done) (told_same (scores_text s.out s.repertoire list))
   stage_same Consistent s list o is =
@@ -60,7 +74,7 @@ module _ (log other : List (List (List ℕ))) (h : HoldTheSame log other) where
       reported_same (λ n sifting. IsSiftBy s.keep n s.states (constraints_in list) sifting) (λ n r. RefusesSiftBy s.keep n s.states (constraints_in list) r)
       (λ sifting. text_of_log (text sifting) log) (λ sifting. text_of_log (text sifting) other) (length (sorted_names log)) (length (sorted_names other)) (ap length (same_names log other h))
       (λ sifting. told_same (text sifting)) o is
-  stage_same Model s list o is = model_same s.keep (model_text s.out s.repertoire list) s.states list o is
+  stage_same Model s list o is = model_as_same s.out s list o is
 
   mined_same : (Is : List Scored → List (List (List ℕ)) → Outcome → Type 0) (s : Settings) (o : Outcome) → ((list : List Scored) → Is list log o → Is list other o) → IsMinedOutcome Is s log o → IsMinedOutcome Is s other o
   mined_same Is s o same is =
@@ -76,6 +90,7 @@ module _ (log other : List (List (List ℕ))) (h : HoldTheSame log other) where
   outcome_same Sample s o is = mined_same (IsModelOutcome false (summary_text s.seed) s.states) s o (λ list. model_same false (summary_text s.seed) s.states list o) is
   outcome_same Check s o is = absurd is
   outcome_same Gen s o is = absurd is
+  outcome_same Verify s o is = absurd is
   outcome_same Compare s o is = absurd is
   outcome_same Analyse s o is = absurd is
   outcome_same Regex s o is = absurd is

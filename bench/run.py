@@ -156,6 +156,14 @@ def process_rules(path, seed, names, count):
         json.dump({"constraints": items}, file)
 
 
+def case_events(path, seed, names, events, cases):
+    """Lines of a case, a tab and a letter: the cases interleaved."""
+    source = random.Random(seed)
+    with open(path, "w", encoding="utf-8") as file:
+        for _ in range(events):
+            file.write(f"case {source.randrange(cases)}\t{chr(97 + source.randrange(names))}\n")
+
+
 # The files by their names: who makes each, its seed, and its numbers.
 LOGS = {
     "1m-39.txt": (letters, 3, 1_000_000, 1, 39),
@@ -190,6 +198,8 @@ LOGS = {
     "line-26.txt": (one_line, 0, 26, 1),
     "first-60.json": (process_rules, 19, 12, 60),
     "second-60.json": (process_rules, 20, 12, 60),
+    "rules-20.json": (process_rules, 21, 12, 20),
+    "events-1m.txt": (case_events, 22, 12, 1_000_000, 50_000),
 }
 
 
@@ -258,9 +268,13 @@ TABLES = {
         *((f"line-{count}.txt", ["mine", *KEEP]) for count in [15, 16, 26]),
         *(("any-20.txt", ["mine", *KEEP, *limits]) for limits in [DEFAULTS, ALWAYS]),
     ],
+    "certificates": [
+        *((f"process-{count}.txt", ["mine", "--out", "cert", *more]) for count in [8, 10, 12] for more in [[], SECOND]),
+    ],
     "by themselves": [
         ("second-60.json", ["compare", "first-60.json"]),
         ("first-60.json", ["analyse"]),
+        ("events-1m.txt", ["monitor", "rules-20.json"]),
     ],
     "checks": [(f"of-{length}-1m.txt", ["check", "rules-561.json"]) for length in [20, 1000]],
 }
@@ -273,7 +287,8 @@ TITLES = {
     "models": "Models",
     "second": "The second repertoire",
     "keep": "Beyond the limit on states",
-    "by themselves": "Models compared and analysed",
+    "certificates": "Certificates",
+    "by themselves": "Models compared, analysed and watched",
     "checks": "Checks",
 }
 

@@ -1,4 +1,4 @@
-"""Models compared and analysed, over their names and one symbol more, the last.
+"""Models compared, analysed and watched, over their names and one symbol more, the last.
 
 What is said of all traces is found in two ways: by trying all traces up to a length, and by automata. Where a trace
 that was tried decides, both have to agree.
@@ -97,3 +97,22 @@ def analysed(constraints, size, states, count, most):
     kept = [trace for trace in short_traces(size, most)[0] if keeps_all(constraints, trace)]
     assert kept[:count] == found[: len(kept[:count])] and not any(set(trace) & set(dead) for trace in kept)
     return (least[0] if least else None), dead, redundant, found
+
+
+# Watching.
+
+
+def standing(constraints, trace, size, most):
+    """K, k, b or B: whether all continuations keep the list, the trace does, it doesn't, or none does."""
+    automaton, state = automaton_of(size, tuple(constraints)), 0
+    for symbol in trace:
+        state = automaton.steps[state][symbol]
+    reached, fresh = {state}, {state}
+    while fresh:
+        fresh = {to for at in fresh for to in automaton.steps[at]} - reached
+        reached |= fresh
+    ends = {automaton.accepting[at] for at in reached}
+    told = {frozenset([True]): "K", frozenset([False]): "B"}.get(frozenset(ends), "k" if automaton.accepting[state] else "b")
+    tried = {keeps_all(constraints, (*trace, *more)) for more in short_traces(size, most)[0]}
+    assert tried <= ends and keeps_all(constraints, trace) == automaton.accepting[state], (constraints, trace)
+    return told

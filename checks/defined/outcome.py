@@ -4,11 +4,13 @@ import re
 from dataclasses import dataclass, field
 
 from defined import texts
+from defined.certificates import certificate_of, verdict
 from defined.comparison import analysed, compared
 from defined.expressions import EXPRESSIONS
 from defined.generator import SAMPLE, generated
 from defined.logs import csv_log, string_log
 from defined.models import check, model_of
+from defined.monitor import model_watched, watched
 from defined.reduction import Searches, reduced, reduced_within, without
 from defined.refusals import Refused
 from defined.scores import candidates
@@ -53,14 +55,15 @@ class Definitions:
 
     def outcome(self, words, read):
         """`read` gives an Input by its name, or None where it can't be opened or not be read at all."""
+        written = []
         try:
-            status, text = self.answer(settings(words), read)
+            status, text = self.answer(settings(words), read, written)
             return Outcome(status, text, b"")
         except Refused as refused:
-            return Outcome(refused.status, b"", refused.line, refused.told)
+            return Outcome(refused.status, b"".join(written), refused.line, refused.told)
 
-    def answer(self, given, read):
-        """The status and the text."""
+    def answer(self, given, read, written):
+        """The status and the text. What stands on the output before that is put behind what is written."""
         match given["command"]:
             case "kb":
                 return DONE, texts.kb_table(*ranked(self.log(given, read)))
@@ -72,6 +75,10 @@ class Definitions:
                 return DONE, generated(*(given[name] for name in ["seed", "traces", "length", "letters"]))
             case "sample":
                 return DONE, self.sampled(given)
+            case "verify":
+                return self.verified(given, read)
+            case "monitor":
+                return self.monitored(given, read, written)
             case "compare":
                 return self.compared(given, read)
             case "analyse":
@@ -159,6 +166,23 @@ class Definitions:
         names, (model,) = texts.over_one_order(self.model(given, read))
         found = analysed(model, len(names) + 1, given["max-states"], given["first"], self.traces_tried)
         return DONE, texts.analysis(names, *found)
+
+    def verified(self, given, read):
+        wrong = verdict(certificate_of(self.whole(given["model"], read)))
+        return (DIFFERS, "no, check {}, item {}\n".format(*wrong).encode()) if wrong else (DONE, b"yes\n")
+
+    def monitored(self, given, read, written):
+        """Lines are written as they come. The model is tried before the log is opened."""
+        names, model = model_watched(self.model(given, read), given["max-states"])
+        found = read(given["log"])
+        if found is None:
+            raise Refused("ReadFault")
+        data = found.data[: found.data.rfind(b"\n") + 1] if found.fails else found.data
+        for line in watched(names, model, data, self.traces_tried):
+            written.append(line)
+        if found.fails:
+            raise Refused("ReadFault")
+        return DONE, b"".join(written)
 
     def sampled(self, given):
         """Each seed once, since it takes seconds."""

@@ -19,6 +19,8 @@ COMMANDS = {
     "check": (LOG_OPTIONS, ["model", "log"]),
     "gen": (GEN_OPTIONS, []),
     "sample": (["seed"], []),
+    "verify": ([], ["model"]),
+    "monitor": (["max-states"], ["model", "log"]),
     "compare": (["max-states"], ["model", "second"]),
     "analyse": (["max-states", "first"], ["model"]),
     "regex": ([], ["model", "word"]),
@@ -27,13 +29,13 @@ COMMANDS = {
 # Those that a command must have.
 NEEDED = ["model", "second"]
 # Commands that read two inputs.
-TWO_INPUTS = ["check", "compare"]
+TWO_INPUTS = ["check", "monitor", "compare"]
 
 # The number that a usage line names. The values of options are tried before all else.
 TWICE_STANDARD_INPUT, TOO_MANY_EVENTS = 17, 18
 PLACES = {name: place for place, name in enumerate(LOG_OPTIONS + REPORT_OPTIONS + GEN_OPTIONS, 2)}
 PLACES |= {name: place for place, name in enumerate(LATER_OPTIONS, 19)}
-NO_TEMPLATE, NO_WORD = 22, 23
+NO_TEMPLATE, NO_WORD, NO_CERTIFICATE = 22, 23, 24
 
 WORD_CHARACTERS = 64
 
@@ -73,7 +75,7 @@ MEANINGS = {
     "interest": threshold,
     "max-states": whole(1, 65_536),
     "stage": one_of("model", "consistent", "scores"),
-    "out": one_of("json", "table"),
+    "out": one_of("json", "table", "cert"),
     "seed": whole(0, 4_294_967_295),
     "traces": whole(0, TRACES),
     "length": whole(1, 1_000),
@@ -177,6 +179,8 @@ def settings(words):
         raise Refused("Usage", TWICE_STANDARD_INPUT)
     if found["traces"] * found["length"] > EVENTS:
         raise Refused("Usage", TOO_MANY_EVENTS)
+    if found["out"] == "cert" and (found["stage"] != "model" or found["on-limit"] == "keep"):
+        raise Refused("Usage", NO_CERTIFICATE)
     if command == "regex":
         try_expression(found["model"], found["word"])
     return found

@@ -13,6 +13,9 @@ use Rattle.minerful_words.specs.declared.settings.Out.TheVariants.{Cert, Json, T
 use Rattle.minerful_words.specs.declared.settings.Settings.{Settings}
 use Rattle.minerful_words.specs.declared.settings.Stage.{Stage}
 use Rattle.minerful_words.specs.declared.settings.Stage.TheVariants.{Consistent, Model, Scores}
+use Rattle.chain_cert.specs.Checks.{IsRight}
+use Rattle.chain_make.specs.Claims.{claim_of}
+use Rattle.model_json.specs.Certificate.{IsCertificateText}
 use Rattle.reduce_model.specs.Reduction.{Reduction}
 use Rattle.report_text.specs.KbTable.{kb_text}
 use Rattle.scoring.specs.Candidates.{candidates_of}
@@ -56,11 +59,18 @@ module _ (log other : List (List (List ℕ))) (h : HoldTheSame log other) where
       (λ reduction. told_same (text reduction)) o is
 
   certified_same : (s : Settings) (list : List Scored) (o : Outcome) → IsCertifiedOutcome s list log o → IsCertifiedOutcome s list other o
-  certified_same s list o is =
-      let text = certificate_text s.repertoire list in
-      reported_same (λ n certified. IsCertified s.keep n s.states (constraints_in list) certified) (λ n r. RefusesReductionBy s.keep n s.states (constraints_in list) r)
-      (λ certified. text_of_log (text certified) log) (λ certified. text_of_log (text certified) other) (length (sorted_names log)) (length (sorted_names other)) (ap length (same_names log other h))
-      (λ certified. told_same (text certified)) o is
+  certified_same s list (answers done text) is =
+      let cs = constraints_in list in
+      let as_many = ap length (same_names log other h) in
+      let reduction = is.0.reduction in
+      let chain = is.0.chain in
+      (is.0, record {
+        reduced = subst (λ n. IsReductionBy s.keep n s.states cs reduction) as_many is.1.reduced;
+        written = is.1.written ∙ told_same (certificate_text s.repertoire list reduction chain);
+        reads = subst (λ n. IsCertificateText is.0.text (claim_of n cs reduction) chain) as_many is.1.reads;
+        right = subst (λ n. IsRight (claim_of n cs reduction) chain) as_many is.1.right;
+      }, is.2)
+  certified_same s list (refuses r) is = subst (λ n. IsTold (RefusesReductionBy s.keep n s.states (constraints_in list)) r) (ap length (same_names log other h)) is
 
   model_as_same : (out : Out) (s : Settings) (list : List Scored) (o : Outcome) → IsModelOutcomeAs out s list log o → IsModelOutcomeAs out s list other o
   model_as_same Cert s list o is = certified_same s list o is

@@ -1,4 +1,7 @@
 ghost use Rattle.std.specs.Prelude.{◌≡◌, ◌<◌, length, count_by, All, IfOk, IfErr};
+ghost use Rattle.chain_cert.specs.Forms.{IsChain};
+ghost use Rattle.model_json.specs.Certificate.{IsCertificateText};
+ghost use Rattle.model_json.specs.Claimed.{MayBeClaimed, claim_by};
 ghost use Rattle.model_json.specs.Model.{AreOf};
 ghost use Rattle.model_json.specs.Report.{is_tested};
 ghost use Rattle.template_core.specs.Constraints.{IsWellMadeFor};
@@ -118,14 +121,11 @@ pub(crate) fn write_certificate(
     traces: u64,
     events: u64,
 ) -> Result<Vec<u8>, Refusal>
-    requires made { All (λ scored. IsWellMadeFor (length names.now.names) scored.constraint) list.now }
-    requires repertoire { AreOf settings.now.repertoire list.now }
-    requires decisions { length reduced.now.decisions ≡ length list.now }
-    requires witnesses { length reduced.now.witnesses ≡ count_by is_tested reduced.now.decisions }
-    requires witness { All (λ trace. All (λ rank. rank < length names.now.names) trace) reduced.now.witnesses }
-    requires example { All (λ rank. rank < length names.now.names) reduced.now.example }
-    ensures text { IfOk result (λ text. text.items ≡ certificate_text settings.now.repertoire list.now
-        (record { reduction = reduced.now; chain = chain.now }) names.now.names traces events) }
+    requires claimed { MayBeClaimed names.now.names settings.now.repertoire list.now reduced.now.decisions reduced.now.witnesses reduced.now.example }
+    requires form { IsChain (claim_by names.now.names list.now reduced.now.decisions reduced.now.witnesses reduced.now.example) chain.now }
+    ensures text { IfOk result (λ text. text.items ≡ certificate_text settings.now.repertoire list.now reduced.now chain.now names.now.names traces events) }
+    ensures reads { IfOk result (λ text. IsCertificateText text.items
+        (claim_by names.now.names list.now reduced.now.decisions reduced.now.witnesses reduced.now.example) chain.now) }
     ensures err { IfErr result (λ e. e ≡ Refusal.Memory) }
 {
     let report = report_value(

@@ -13,7 +13,8 @@ use Rattle.decl_outside.specs.Sink.{SinkState}
 use Rattle.event_log.specs.Logs.{by_ranks, sorted_names}
 use Rattle.minerful_words.specs.Settings.{settings}
 use Rattle.minerful_words.specs.declared.settings.Command.TheVariants.{Mine}
-use Rattle.minerful_words.specs.declared.settings.Out.TheVariants.{Json}
+use Rattle.minerful_words.specs.declared.settings.Out.{Out}
+use Rattle.minerful_words.specs.declared.settings.Out.TheVariants.{Cert, Json}
 use Rattle.minerful_words.specs.declared.settings.Settings.{Settings}
 use Rattle.minerful_words.specs.declared.settings.Stage.TheVariants.{Model}
 use Rattle.reduce_model.proofs.Consequences.{keepable, left_out, witnesses-break}
@@ -23,8 +24,8 @@ use Rattle.reduce_model.specs.Reduction.{IsReduction, Reduction}
 use Rattle.reduce_model.specs.Within.{IsReductionWithin}
 use Rattle.scoring.specs.Scores.{scored}
 use Rattle.template_core.specs.Constraints.{IsWellMadeFor}
-use Rattle.minerful_core.specs.Headline.{IsHeadline, IsHeadlineWithin, MinesModel, MinesWithin, PrintsModel, PrintsWithin}
-use Rattle.minerful_core.specs.Outcome.{answers, candidates_in, constraints_in, log_in, log_of, model_text, refuses, text_of_log, IsCommandOutcome, IsLogOutcome, IsModelOutcome, IsModelOutcomeAs, IsOutcome, IsOutcomeOf, IsSettingsOutcome, IsStageOutcome}
+use Rattle.minerful_core.specs.Headline.{IsHeadline, IsHeadlineWithin, MinesCertificate, MinesModel, MinesWithin, PrintsCertificate, PrintsModel, PrintsWithin}
+use Rattle.minerful_core.specs.Outcome.{answers, candidates_in, constraints_in, log_in, log_of, model_text, refuses, text_of_log, IsCommandOutcome, IsLogOutcome, IsModelOutcome, IsModelOutcomeAs, IsOutcome, IsOutcomeOf, IsReductionBy, IsSettingsOutcome, IsStageOutcome}
 use Rattle.minerful_core.specs.Run.{WritesOutput}
 use Rattle.minerful_core.proofs.Models.{constraints-staying}
 use Rattle.minerful_core.proofs.Refusing.{told}
@@ -77,14 +78,14 @@ second : (b : Bool) (P Q : Type 0) → (P → ⊥) → MatchBool b P Q → Q
 second true P Q never h = absurd (never h)
 second false P Q never h = h
 
--- the outcome of the reduction that is printed as JSON
-reduced : (s : Settings) (log : List (List (List ℕ))) (text : List ℕ) → s.stage ≡ Model → s.out ≡ Json → IsLogOutcome Mine s log (answers status.Done text)
-    → IsModelOutcome s.keep (model_text Json s.repertoire (candidates_in s log)) s.states (candidates_in s log) log (answers status.Done text)
-reduced s log text stage out is =
+-- the outcome at stage `model` as these settings want it
+modelled : (out : Out) (s : Settings) (log : List (List (List ℕ))) (text : List ℕ) → s.stage ≡ Model → s.out ≡ out → IsLogOutcome Mine s log (answers status.Done text)
+    → IsModelOutcomeAs out s (candidates_in s log) log (answers status.Done text)
+modelled out s log text stage out_is is =
     let list = candidates_in s log in
     let staged = second (nat_lt standard.candidates (length list)) (answers status.Done text ≡ refuses (refusal.Candidates (length list))) (IsStageOutcome s.stage s list log (answers status.Done text)) (λ e. cc) is in
-    let modelled : IsStageOutcome Model s list log (answers status.Done text) = subst (λ stage. IsStageOutcome stage s list log (answers status.Done text)) stage staged in
-    subst (λ out. IsModelOutcomeAs out s list log (answers status.Done text)) out modelled
+    let at_model : IsStageOutcome Model s list log (answers status.Done text) = subst (λ stage. IsStageOutcome stage s list log (answers status.Done text)) stage staged in
+    subst (λ out. IsModelOutcomeAs out s list log (answers status.Done text)) out_is at_model
 
 same_text : (text other : List ℕ) → answers status.Done text ≡ answers status.Done other → text ≡ other
 same_text text other e = cc
@@ -98,16 +99,23 @@ Shows Mines Prints =
 shows_model : Shows MinesModel PrintsModel
 shows_model s bytes log text old new held mines read is =
     let list = candidates_in s log in
-    let told = subst (λ keep. IsModelOutcome keep (model_text Json s.repertoire list) s.states list log (answers status.Done text)) mines.stops (reduced s log text mines.stage mines.out is) in
+    let told = subst (λ keep. IsModelOutcome keep (model_text Json s.repertoire list) s.states list log (answers status.Done text)) mines.stops (modelled Json s log text mines.stage mines.out is) in
     let text_is = same_text text (text_of_log (model_text Json s.repertoire list told.0) log) told.2 in
     (log, list, told.0, read, held ∙ ap (append_known old.held) text_is, headline s log told.0 told.1)
 
 shows_within : Shows MinesWithin PrintsWithin
 shows_within s bytes log text old new held mines read is =
     let list = candidates_in s log in
-    let told = subst (λ keep. IsModelOutcome keep (model_text Json s.repertoire list) s.states list log (answers status.Done text)) mines.keeps (reduced s log text mines.stage mines.out is) in
+    let told = subst (λ keep. IsModelOutcome keep (model_text Json s.repertoire list) s.states list log (answers status.Done text)) mines.keeps (modelled Json s log text mines.stage mines.out is) in
     let text_is = same_text text (text_of_log (model_text Json s.repertoire list told.0) log) told.2 in
     (log, list, told.0, read, held ∙ ap (append_known old.held) text_is, headline_within s log told.0 told.1)
+
+shows_certificate : Shows MinesCertificate PrintsCertificate
+shows_certificate s bytes log text old new held mines read is =
+    let list = candidates_in s log in
+    let told = modelled Cert s log text mines.stage mines.out is in
+    let reduced = subst (λ keep. IsReductionBy keep (length (sorted_names log)) s.states (constraints_in list) told.0.reduction) mines.stops told.1.reduced in
+    (log, list, told.0, read, held ∙ ap (append_known old.held) (same_text text told.0.text told.2), told.1.written, headline s log told.0.reduction reduced, told.1.reads, told.1.right)
 
 -- ---- from the words to what is printed
 
@@ -137,6 +145,10 @@ headline_of = printed_of MinesModel PrintsModel (λ s mines. mines.command) show
 pub headline_keep_of : (words : List (List ℕ)) (contents : Option (List ℕ → List ℕ)) (s : Status) → s ≡ status.Done → (old new : SinkState)
     → IfSome contents (λ contents. WritesOutput (IsOutcome words contents) s old new) → IfSome contents (λ contents. IfOk (settings words) (λ given. MinesWithin given → PrintsWithin given (contents given.log) old new))
 headline_keep_of = printed_of MinesWithin PrintsWithin (λ s mines. mines.command) shows_within
+
+pub certified_of : (words : List (List ℕ)) (contents : Option (List ℕ → List ℕ)) (s : Status) → s ≡ status.Done → (old new : SinkState)
+    → IfSome contents (λ contents. WritesOutput (IsOutcome words contents) s old new) → IfSome contents (λ contents. IfOk (settings words) (λ given. MinesCertificate given → PrintsCertificate given (contents given.log) old new))
+certified_of = printed_of MinesCertificate PrintsCertificate (λ s mines. mines.command) shows_certificate
 
 -- a refusal has another status
 pub not_done : (r : Refusal) → status_of r ≡ status.Done → ⊥

@@ -2,11 +2,15 @@
 use Rattle.std.specs.Prelude.{◌≡◌, ◌↔◌, ◌⊎◌, ℕ, suc, List, [], ◌∷◌, ◌++◌, true, false, All, Some, Ok, length, take, drop, slice_get}
 use Rattle.std.specs.Io.KnownBytes.{append_known}
 use Rattle.decl_outside.specs.Sink.{SinkState}
+use Rattle.chain_cert.specs.Checks.{IsVerdict}
+use Rattle.chain_cert.specs.declared.verdict.Verdict.TheVariants.{Yes}
+use Rattle.chain_make.specs.Claims.{claim_of}
+use Rattle.model_json.specs.Certificate.{IsCertificateText}
 use Rattle.dfa_core.specs.Languages.{HasNoMember}
 use Rattle.dfa_core.specs.Traces.{IsTrace}
 use Rattle.event_log.specs.Logs.{by_ranks, sorted_names}
 use Rattle.minerful_words.specs.declared.settings.Command.TheVariants.{Mine}
-use Rattle.minerful_words.specs.declared.settings.Out.TheVariants.{Json}
+use Rattle.minerful_words.specs.declared.settings.Out.TheVariants.{Cert, Json}
 use Rattle.minerful_words.specs.declared.settings.Settings.{Settings}
 use Rattle.minerful_words.specs.declared.settings.Stage.TheVariants.{Model}
 use Rattle.model_json.specs.Report.{staying}
@@ -20,7 +24,7 @@ use Rattle.scoring.specs.Scores.{scored}
 use Rattle.scoring.specs.declared.scored.Scored.{Scored}
 use Rattle.template_core.specs.Keeping.{KeepsAll}
 use Rattle.template_core.specs.declared.constraint.Constraint.{Constraint}
-use Rattle.minerful_core.specs.Outcome.{candidates_in, constraints_in, log_of, model_text, text_of_log}
+use Rattle.minerful_core.specs.Outcome.{candidates_in, certificate_text, constraints_in, log_of, model_text, text_of_log, Certified}
 
 -- the settings ask for the reduced model of a log, as JSON, and to stop at the limit
 pub record MinesModel (s : Settings) : Type 0 where
@@ -106,6 +110,15 @@ pub record IsHeadlineWithin (s : Settings) (log : List (List (List ℕ))) (list 
       ⊎ (HasNoMember (activities_in log) (KeepsAll (before is_consistent place (constraints_in list) reduction.decisions ++ c ∷ []))
       ⊎ IsWideList (activities_in log) s.states (before is_consistent place (constraints_in list) reduction.decisions ++ c ∷ []))
 
+-- ---- certificates
+
+-- the settings ask for a certificate of the reduced model of a log
+pub record MinesCertificate (s : Settings) : Type 0 where
+  pub command : s.command ≡ Mine
+  pub stage : s.stage ≡ Model
+  pub out : s.out ≡ Cert
+  pub stops : s.keep ≡ false
+
 -- ---- what is printed
 
 -- there are the log of an input and a report that stands on the output more, of which the sentence holds
@@ -118,3 +131,13 @@ abbrev pub PrintsWithin : Settings → List ℕ → SinkState → SinkState → 
 PrintsWithin s bytes old new =
     (log : List (List (List ℕ))) × (list : List Scored) × (reduction : Reduction) × (log_of s.format s.columns bytes ≡ Ok log)
     × (new.held ≡ append_known old.held (text_of_log (model_text Json s.repertoire list reduction) log)) × IsHeadlineWithin s log list reduction
+
+-- There are the log of an input and a certificate that stands on the output more. The sentence holds of its report; and as a
+-- certificate it is read as a claim, that of the report, and a chain, of which the verdict is yes.
+abbrev pub PrintsCertificate : Settings → List ℕ → SinkState → SinkState → Type 0
+PrintsCertificate s bytes old new =
+    (log : List (List (List ℕ))) × (list : List Scored) × (certified : Certified) × (log_of s.format s.columns bytes ≡ Ok log)
+    × (new.held ≡ append_known old.held certified.text)
+    × (certified.text ≡ text_of_log (certificate_text s.repertoire list certified.reduction certified.chain) log) × IsHeadline s log list certified.reduction
+    × IsCertificateText certified.text (claim_of (activities_in log) (constraints_in list) certified.reduction) certified.chain
+    × IsVerdict (claim_of (activities_in log) (constraints_in list) certified.reduction) certified.chain Yes

@@ -68,7 +68,7 @@ compared model log names other list same rows broken text names_are list_is othe
 -- ---- the two inputs
 
 -- what failed later failed over the whole
-failed_later : (name : Option (List ℕ)) (old mid new : InputState) → old.faults ≤ mid.faults → FailedIn name mid new → FailedIn name old new
+pub failed_later : (name : Option (List ℕ)) (old mid new : InputState) → old.faults ≤ mid.faults → FailedIn name mid new → FailedIn name old new
 failed_later name old mid new later h = record { rose = rises old.faults mid.faults new.faults later h.rose; asked = h.asked; failed = h.failed }
   where
     rises : (a b c : ℕ) → a ≤ b → Rose b c → Rose a c

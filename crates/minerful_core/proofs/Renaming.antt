@@ -111,6 +111,9 @@ pub few_both : (first second : Known) (names : List (List ℕ)) → names ≡ na
 few_both first second names is one other =
     omega (arith, ap length is, length-in_byte_order (first.names ++ second.names), length-append first.names second.names, one.few_names, other.few_names)
 
+pub few_names_of : (model : Known) (names : List (List ℕ)) → names ≡ names_of model → IsModel model → length names ≤ standard.activities
+few_names_of model names is own = omega (arith, ap length is, length-in_byte_order model.names, own.few_names)
+
 pub few_own : (model : Known) (names : List (List ℕ)) → names ≡ names_of model → IsModel model → length names ≤ 2 * standard.activities
 few_own model names is own = omega (arith, ap length is, length-in_byte_order model.names, own.few_names)
 

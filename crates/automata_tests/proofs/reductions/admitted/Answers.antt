@@ -3,7 +3,7 @@ use Rattle.std.proofs.lemmas.List.{get_or_default}
 use Rattle.template_core.specs.Constraints.{IsWellMadeFor}
 use Rattle.template_core.specs.declared.constraint.Constraint.{Constraint}
 use Rattle.template_core.specs.declared.kind.Kind.TheVariants.{Init}
-use Rattle.layer_tests.proofs.reductions.admitted.Goals as goal
+use Rattle.automata_tests.proofs.reductions.admitted.Goals as goal
 
 abbrev some_constraint : Constraint
 some_constraint = record { kind = Init; first = 0; second = 0 }

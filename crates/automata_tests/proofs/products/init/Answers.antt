@@ -3,7 +3,7 @@ use Rattle.template_core.specs.Tables.{step}
 use Rattle.template_core.specs.declared.class.Class.{Class}
 use Rattle.template_core.specs.declared.class.Class.TheVariants.{First, Second, Other}
 use Rattle.template_core.specs.declared.table.Table.{Table}
-use Rattle.layer_tests.proofs.products.init.Goals as goal
+use Rattle.automata_tests.proofs.products.init.Goals as goal
 
 abbrev table : Table
 table = record {

@@ -1,6 +1,6 @@
 use Rattle.std.proofs.Common.{[], ◌∷◌, replicate, refl, lit<}
 use Rattle.dfa_core.proofs.Runs.{whole-entries}
-use Rattle.layer_tests.proofs.least_automata.ring.Goals as goal
+use Rattle.automata_tests.proofs.least_automata.ring.Goals as goal
 
 pub of-requires : goal.of-requires
 of-requires c =

@@ -2,7 +2,7 @@ use Rattle.std.proofs.Common.{◌≡◌, ℕ, ◌+◌, ◌<◌, List, [], ◌∷
 use Rattle.std.proofs.lemmas.List.{length_push}
 use Rattle.std.specs.List.{AllByRecursion}
 use Rattle.dfa_core.proofs.Runs.{whole-entries}
-use Rattle.layer_tests.proofs.least_automata.chain.Goals as goal
+use Rattle.automata_tests.proofs.least_automata.chain.Goals as goal
 
 all-push : (m : ℕ) (xs : List ℕ) (y : ℕ) → AllByRecursion (λ x. x < m) xs → y < m → AllByRecursion (λ x. x < m) (xs ++ y ∷ [])
 all-push m [] y all lt = (lt, tt)

@@ -1,6 +1,6 @@
 use Rattle.std.proofs.Common.{[], ◌∷◌, true, false, refl, lit<}
 use Rattle.dfa_core.proofs.Runs.{whole-entries}
-use Rattle.layer_tests.proofs.least_automata.states_are_numbered_breadth_first.Goals as goal
+use Rattle.automata_tests.proofs.least_automata.states_are_numbered_breadth_first.Goals as goal
 
 pub of-shuffled-requires : goal.of-shuffled-requires
 of-shuffled-requires g c =

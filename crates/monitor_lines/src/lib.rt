@@ -6,6 +6,3 @@ mod text;
 mod watching;
 
 pub use watching::{monitor_of, watch};
-
-#[cfg(test)]
-mod tests;

@@ -9,6 +9,8 @@ mod logs;
 #[cfg(test)]
 mod models;
 #[cfg(test)]
+mod running_cases;
+#[cfg(test)]
 mod string_logs;
 #[cfg(test)]
 mod words;

@@ -2,10 +2,10 @@ ghost use Rattle.std.specs.Prelude.{◌≡◌, ◌≤◌, length};
 ghost use Rattle.template_core.specs.Constraints.{IsWellMadeFor};
 ghost use Rattle.monitor_lines.specs.Cases.{symbol_count};
 
-use crate::{monitor_of, watch};
 use decl_base::{Limits, Name, Refusal};
 use decl_outside::{Inputs, MemInputs, MemSink};
 use event_log::Alphabet;
+use monitor_lines::{monitor_of, watch};
 use std::alloc::Global;
 use std::test::Fail;
 use template_core::{Constraint, Kind};

@@ -4,6 +4,8 @@
 #[cfg(test)]
 mod automata;
 #[cfg(test)]
+mod certified;
+#[cfg(test)]
 mod commands;
 #[cfg(test)]
 mod faults;

@@ -117,7 +117,7 @@ pub record MinesCertificate (s : Settings) : Type 0 where
   pub command : s.command ≡ Mine
   pub stage : s.stage ≡ Model
   pub out : s.out ≡ Cert
-  pub stops : s.keep ≡ false
+  pub stops_at_limit : s.keep ≡ false
 
 -- ---- what is printed
 

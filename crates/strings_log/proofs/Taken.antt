@@ -127,14 +127,21 @@ first_fault-none limits lines done others is faultless = none_found (fault_at li
     ap₂ (λ l o. option_and_then (fault_behind limits l) o) (sym (take-append-le place done others (omega (arith, inside)))) (sym (slice_get-append done others place inside))
     ∙ ap (λ l. fault_at limits l place) (sym is) ∙ faultless place inside)
 
--- lines that were ended and aren't at fault were taken, and then bytes without a line feed
-pub took_no_fault : (limits : Limits) (bytes left held : List ℕ) (after : Option (List ℕ)) (done : List Piece) → AreEnded done → pieces bytes ≡ done ++ pieces left
-    → Faultless limits (pieces bytes) (length done) → HasNoFeed held → prepend_known held after ≡ Some left → TookNoFault limits (Some bytes) after
-took_no_fault limits bytes left held None done ended is faultless none rest = absurd (cc)
-took_no_fault limits bytes left held (Some unread) done ended is faultless none rest =
+-- lines that were ended were taken, and then bytes without a line feed
+pub lines_taken : (bytes left held : List ℕ) (after : Option (List ℕ)) (done : List Piece) → AreEnded done → pieces bytes ≡ done ++ pieces left → HasNoFeed held → prepend_known held after ≡ Some left
+    → (taken : List ℕ) × (Some bytes ≡ prepend_known taken after) × (ended_lines taken ≡ done)
+lines_taken bytes left held None done ended is none rest = absurd (cc)
+lines_taken bytes left held (Some unread) done ended is none rest =
     let left_is : held ++ unread ≡ left = cc in (
       bytes_of done ++ held,
       ap Some (sym (bytes_of-pieces bytes) ∙ ap bytes_of is ∙ flat_map-append bytes_of_piece done (pieces left)
           ∙ ap (λ l. bytes_of done ++ l) (bytes_of-pieces left ∙ sym left_is) ∙ sym (append_assoc (bytes_of done) held unread)),
-      ap (first_fault limits) (ended_lines-taken done bytes left held ended is none) ∙ first_fault-none limits (pieces bytes) done (pieces left) is faultless,
+      ended_lines-taken done bytes left held ended is none,
     )
+
+-- those lines aren't at fault where no line before them is
+pub took_no_fault : (limits : Limits) (bytes left held : List ℕ) (after : Option (List ℕ)) (done : List Piece) → AreEnded done → pieces bytes ≡ done ++ pieces left
+    → Faultless limits (pieces bytes) (length done) → HasNoFeed held → prepend_known held after ≡ Some left → TookNoFault limits (Some bytes) after
+took_no_fault limits bytes left held after done ended is faultless none rest =
+    let front = lines_taken bytes left held after done ended is none rest in
+    (front.0, front.1, ap (first_fault limits) front.2 ∙ first_fault-none limits (pieces bytes) done (pieces left) is faultless)

@@ -7,7 +7,7 @@ use Rattle.decl_base.specs.declared.refusal.Refusal.TheVariants as refusal
 use Rattle.decl_base.specs.declared.status.Status.TheVariants as status
 use Rattle.event_log.specs.Logs.{by_ranks, events_of, sorted_names}
 use Rattle.minerful_words.specs.declared.settings.Command.{Command}
-use Rattle.minerful_words.specs.declared.settings.Command.TheVariants.{Mine, Kb, Check, Gen, Sample, Verify, Compare, Analyse, Regex}
+use Rattle.minerful_words.specs.declared.settings.Command.TheVariants.{Mine, Kb, Check, Gen, Sample, Verify, Monitor, Compare, Analyse, Regex}
 use Rattle.minerful_words.specs.declared.settings.Out.{Out}
 use Rattle.minerful_words.specs.declared.settings.Out.TheVariants.{Cert, Json, Table}
 use Rattle.minerful_words.specs.declared.settings.Settings.{Settings}
@@ -101,6 +101,7 @@ module _ (log other : List (List (List ℕ))) (h : HoldTheSame log other) where
   outcome_same Check s o is = absurd is
   outcome_same Gen s o is = absurd is
   outcome_same Verify s o is = absurd is
+  outcome_same Monitor s o is = absurd is
   outcome_same Compare s o is = absurd is
   outcome_same Analyse s o is = absurd is
   outcome_same Regex s o is = absurd is

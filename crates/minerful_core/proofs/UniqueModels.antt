@@ -25,7 +25,7 @@ found_unique n Member (Some t) (Some u) h g = ap Some (least_unique n Member t u
 order : (m n : ℕ) → (m ≡ n) ⊎ ((m < n) ⊎ (n < m))
 order m n = grind arith
 
-prefix_unique : (n s : ℕ) (list : List Constraint) (a b : ℕ) → IsFirstPrefix n s list a → IsFirstPrefix n s list b → a ≡ b
+pub prefix_unique : (n s : ℕ) (list : List Constraint) (a b : ℕ) → IsFirstPrefix n s list a → IsFirstPrefix n s list b → a ≡ b
 prefix_unique n s list a b h g =
     elim (order a b) [
       | inl same ↦ same

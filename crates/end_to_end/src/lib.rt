@@ -14,4 +14,6 @@ mod limits;
 #[cfg(test)]
 mod reports;
 #[cfg(test)]
+mod running;
+#[cfg(test)]
 mod tests;

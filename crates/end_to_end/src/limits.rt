@@ -13,7 +13,7 @@ const FAST: Outside<'static> = Outside {
 };
 
 /// The piece so many times, between these.
-fn repeated(
+pub(crate) fn repeated(
     alloc: Global,
     before: &[u8],
     piece: &[u8],

@@ -63,13 +63,16 @@ module _ (log other : List (List (List ℕ))) (h : HoldTheSame log other) where
       let cs = constraints_in list in
       let as_many = ap length (same_names log other h) in
       let reduction = is.0.reduction in
-      let chain = is.0.chain in
-      (is.0, record {
-        reduced = subst (λ n. IsReductionBy s.keep n s.states cs reduction) as_many is.1.reduced;
-        written = is.1.written ∙ told_same (certificate_text s.repertoire list reduction chain);
-        reads = subst (λ n. IsCertificateText is.0.text (claim_of n cs reduction) chain) as_many is.1.reads;
-        right = subst (λ n. IsRight (claim_of n cs reduction) chain) as_many is.1.right;
-      }, is.2)
+      let chain = is.0.chain in (
+        is.0,
+        record {
+          reduced = subst (λ n. IsReductionBy s.keep n s.states cs reduction) as_many is.1.reduced;
+          written = is.1.written ∙ told_same (certificate_text s.repertoire list reduction chain);
+          reads = subst (λ n. IsCertificateText is.0.text (claim_of n cs reduction) chain) as_many is.1.reads;
+          right = subst (λ n. IsRight (claim_of n cs reduction) chain) as_many is.1.right;
+        },
+        is.2,
+      )
   certified_same s list (refuses r) is = subst (λ n. IsTold (RefusesReductionBy s.keep n s.states (constraints_in list)) r) (ap length (same_names log other h)) is
 
   model_as_same : (out : Out) (s : Settings) (list : List Scored) (o : Outcome) → IsModelOutcomeAs out s list log o → IsModelOutcomeAs out s list other o

@@ -77,6 +77,14 @@ fn monitor_log<I: Inputs, O: Sink>(
     let list = constraints_over(alloc, &names, &model)?;
     let monitor = monitor_of(alloc, &names, &list, settings.states)?;
     open_named(alloc, &settings.log, inputs)?;
-    watch(alloc, &names, &list, monitor, inputs, out, &Limits::standard())?;
+    watch(
+        alloc,
+        &names,
+        &list,
+        monitor,
+        inputs,
+        out,
+        &Limits::standard(),
+    )?;
     Ok(())
 }

@@ -69,10 +69,12 @@ returns-clause-text c =
     let same = ap length in_order ∙ order-length names c.requires.kb.0 c.requires.kb.1.within.numbering ∙ sym c.len-tasks.ensures in
     both_ok c.write_certificate.result _ _ _
     (λ text h g ids is.
-      let written = h ∙ text-is (certificate_text s.repertoire list reduction chain) names ids c.in_ok-ordered.ordered.names c.traces.result c.events.result is.within.numbering
-      in_order (c.traces.ensures ids [] is.stands) (events_are ids c.events.result (c.events.ensures ids [] is.stands)) in
-      let reads = subst (λ claim. IsCertificateText text.items claim chain) (claims-alike c.in_ok-ordered.ordered.names c.len-tasks.result list c.deref-2.result.now reduction same second) g in
-      (record { reduction = reduction; chain = chain; text = text.items },
+    let written = h ∙ text-is (certificate_text s.repertoire list reduction chain) names ids c.in_ok-ordered.ordered.names c.traces.result c.events.result is.within.numbering
+    in_order (c.traces.ensures ids [] is.stands) (events_are ids c.events.result (c.events.ensures ids [] is.stands)) in
+    let reads = subst (λ claim. IsCertificateText text.items claim chain) (claims-alike c.in_ok-ordered.ordered.names c.len-tasks.result list c.deref-2.result.now reduction same second) g in (
+      record { reduction = reduction; chain = chain; text = text.items },
       is_certified names ids c.len-tasks.result s list c.deref-2.result.now reduction chain text.items is.within.numbering c.len-tasks.ensures second c.requires.stops
-      (subst (λ l. IsReduction c.len-tasks.result s.states l reduction) (first ∙ sym second) c.in_ok-reduced.ensures.ok) written reads c.in_ok-chain.ensures.right, refl))
+          (subst (λ l. IsReduction c.len-tasks.result s.states l reduction) (first ∙ sym second) c.in_ok-reduced.ensures.ok) written reads c.in_ok-chain.ensures.right,
+      refl,
+    ))
     c.write_certificate.ensures.text c.write_certificate.ensures.reads

@@ -87,8 +87,10 @@ returns-in_err-watch-clause-left g c =
     (ap (λ o. o.names) c.in_ok-names.ensures.ok ∙ ap in_byte_order c.names.ensures) (c.deref-2.ensures.value ∙ c.in_ok-list.ensures.list)
     (g.I.Inputs.state c.read_known_model.new.inputs) (g.I.Inputs.state c.open_named.new.inputs) c.in_ok-open_named.ensures.opened c.in_ok-model.ensures.contents
     (g.O.Sink.state c.args.out.now) (g.O.Sink.state c.watch.new.out)
-    (record { few = subst (λ l. length l ≤ most_constraints) (c.deref.ensures.value ∙ sym c.deref-2.ensures.value) c.in_ok-monitor.ensures.few;
-        narrow = subst (λ l. IsNarrowList (symbols_of c.in_ok-names.names.names) c.args.settings.now.states l) (c.deref.ensures.value ∙ sym c.deref-2.ensures.value) c.in_ok-monitor.ensures.narrow })
+    (record {
+      few = subst (λ l. length l ≤ most_constraints) (c.deref.ensures.value ∙ sym c.deref-2.ensures.value) c.in_ok-monitor.ensures.few;
+      narrow = subst (λ l. IsNarrowList (symbols_of c.in_ok-names.names.names) c.args.settings.now.states l) (c.deref.ensures.value ∙ sym c.deref-2.ensures.value) c.in_ok-monitor.ensures.narrow;
+    })
     c.standard.result c.standard.ensures c.in_ok-model.ensures.model c.in_err-watch.ensures.keeps c.in_err-watch.field-0.0 c.in_err-watch.ensures.cause)
 
 pub returns-clause-lines : goal.returns-clause-lines
@@ -97,18 +99,20 @@ returns-clause-lines g c =
     (ap (λ o. o.names) c.in_ok-names.ensures.ok ∙ ap in_byte_order c.names.ensures) (c.deref-2.ensures.value ∙ c.in_ok-list.ensures.list)
     (g.I.Inputs.state c.read_known_model.new.inputs) (g.I.Inputs.state c.open_named.new.inputs) c.in_ok-open_named.ensures.opened c.in_ok-model.ensures.contents
     (g.O.Sink.state c.args.out.now) (g.O.Sink.state c.watch.new.out)
-    (record { few = subst (λ l. length l ≤ most_constraints) (c.deref.ensures.value ∙ sym c.deref-2.ensures.value) c.in_ok-monitor.ensures.few;
-        narrow = subst (λ l. IsNarrowList (symbols_of c.in_ok-names.names.names) c.args.settings.now.states l) (c.deref.ensures.value ∙ sym c.deref-2.ensures.value) c.in_ok-monitor.ensures.narrow })
+    (record {
+      few = subst (λ l. length l ≤ most_constraints) (c.deref.ensures.value ∙ sym c.deref-2.ensures.value) c.in_ok-monitor.ensures.few;
+      narrow = subst (λ l. IsNarrowList (symbols_of c.in_ok-names.names.names) c.args.settings.now.states l) (c.deref.ensures.value ∙ sym c.deref-2.ensures.value) c.in_ok-monitor.ensures.narrow;
+    })
     c.standard.result c.standard.ensures c.in_ok-model.ensures.model c.in_ok-watch.ensures.all
 
 pub returns-clause-opens : goal.returns-clause-opens
 returns-clause-opens g c =
     let asks = asks_both c.args.settings.now.model c.args.settings.now.log (g.I.Inputs.state c.args.inputs.now) (g.I.Inputs.state c.read_known_model.new.inputs) (g.I.Inputs.state c.open_named.new.inputs)
-        c.in_ok-model.ensures.asked c.in_ok-open_named.ensures.opens in
+    c.in_ok-model.ensures.asked c.in_ok-open_named.ensures.opens in
     (asks.0, c.in_ok-watch.ensures.keeps.names ∙ asks.1)
 
 pub returns-in_err-watch-clause-opens : goal.returns-in_err-watch-clause-opens
 returns-in_err-watch-clause-opens g c =
     let asks = asks_both c.args.settings.now.model c.args.settings.now.log (g.I.Inputs.state c.args.inputs.now) (g.I.Inputs.state c.read_known_model.new.inputs) (g.I.Inputs.state c.open_named.new.inputs)
-        c.in_ok-model.ensures.asked c.in_ok-open_named.ensures.opens in
+    c.in_ok-model.ensures.asked c.in_ok-open_named.ensures.opens in
     (asks.0, c.in_err-watch.ensures.keeps.names ∙ asks.1)

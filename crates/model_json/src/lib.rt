@@ -1,6 +1,7 @@
 //! Reports as JSON values, their texts, and the models that are read back.
 #![tactic(auto)]
 
+mod chain_values;
 mod constraints;
 mod decisions;
 mod items;
@@ -11,6 +12,7 @@ mod report;
 mod shapes;
 mod text;
 
+pub use chain_values::certificate_value;
 pub use constraints::trace_value;
 pub use decisions::{is_tested, staying};
 pub use known::KnownModel;

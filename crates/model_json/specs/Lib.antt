@@ -1,3 +1,4 @@
 pub mod Model
 pub mod Report
+pub mod Certificate
 pub mod ChainValue

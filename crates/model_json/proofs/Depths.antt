@@ -1,7 +1,7 @@
 -- A report nests a few levels only.
 use Rattle.std.proofs.Common.{ℕ, ◌≤◌, List, [], ◌∷◌, map, codes, not, true, Option, None, Some, arith}
 use Rattle.std.specs.Prelude.{slice_get, unwrap_or}
-use Rattle.serde_json.specs.Data.{Data, Members, boolean, string, member, no_members, depth, items_depth, members_depth}
+use Rattle.serde_json.specs.Data.{Data, Members, boolean, number, unsigned, string, member, no_members, depth, items_depth, members_depth}
 use Rattle.serde_json.specs.Read.{max_depth}
 use Rattle.serde_json.specs.View.{items_of}
 use Rattle.scoring.specs.declared.scored.Scored.{Scored}
@@ -12,6 +12,8 @@ use Rattle.reduce_model.specs.Sifting.{Sifting}
 use Rattle.reduce_model.specs.declared.decision.Decision.{Decision}
 use Rattle.reduce_model.specs.declared.decision.Decision.TheVariants.{Kept, Conflict, Weaker, FirstPass, SecondPass, Beyond, Untested}
 use Rattle.reduce_model.specs.Deciding.{is_kept}
+use Rattle.chain_cert.specs.Parts.{ChainParts, LinkParts}
+use Rattle.model_json.specs.ChainValue.{certificate_object, link_value, mark_value, numbers_value, rows_of, tuples_value}
 use Rattle.model_json.specs.Report.{activities_of, parameter_value, parameters_value, constraint_value, scored_members, scored_value, witnessed_value, trace_value, decided_value, why, decided, staying, with_witnesses, untested_value, listed_value, dropped_values, report_object, scores_report, consistent_report, model_report, name_at, versioned}
 
 items : {A : Type 0} (f : A → Data) (n : ℕ) → ((x : A) → depth (f x) ≤ n) → (xs : List A) → items_depth (items_of (map f xs)) ≤ n
@@ -64,9 +66,9 @@ depth-scores_report names repertoire list traces events =
 
 -- of the stages that drop constraints
 report : (repertoire : Repertoire) (constraints dropped : List Data) (names : List (List ℕ)) (example : List ℕ) (traces events : ℕ) → items_depth (items_of constraints) ≤ 3 → items_depth (items_of dropped) ≤ 4
-    → depth (versioned repertoire (report_object constraints dropped events (trace_value names example) (map string names) traces)) ≤ max_depth
+    → depth (versioned repertoire (report_object constraints dropped events (trace_value names example) (map string names) traces)) ≤ 6
 report repertoire constraints dropped names example traces events kept out =
-    each_repertoire (λ r. depth (versioned r (report_object constraints dropped events (trace_value names example) (map string names) traces)) ≤ max_depth)
+    each_repertoire (λ r. depth (versioned r (report_object constraints dropped events (trace_value names example) (map string names) traces)) ≤ 6)
     (omega (arith, kept, out, trace names example, tasks names)) (omega (arith, kept, out, trace names example, tasks names)) repertoire
 
 dropped : (names : List (List ℕ)) (list : List Scored) (decisions : List Decision) → items_depth (items_of (dropped_values names list decisions)) ≤ 4
@@ -78,13 +80,36 @@ pub depth-consistent_report : (names : List (List ℕ)) (repertoire : Repertoire
     → depth (consistent_report names repertoire list sifting traces events) ≤ max_depth
 depth-consistent_report names repertoire list sifting traces events =
     let kept = staying list sifting.decisions in
-    report repertoire (map (scored_value names) kept) (dropped_values names list sifting.decisions) names sifting.example traces events
-    (items (scored_value names) 3 (scored_depth names) kept) (dropped names list sifting.decisions)
+    omega (
+      arith,
+      report repertoire (map (scored_value names) kept) (dropped_values names list sifting.decisions) names sifting.example traces events
+          (items (scored_value names) 3 (scored_depth names) kept) (dropped names list sifting.decisions),
+    )
 
-pub depth-model_report : (names : List (List ℕ)) (repertoire : Repertoire) (list : List Scored) (decisions : List Decision) (witnesses : List (List ℕ)) (example : List ℕ) (traces events : ℕ)
-    → depth (model_report names repertoire list decisions witnesses example traces events) ≤ max_depth
-depth-model_report names repertoire list decisions witnesses example traces events =
+model_depth : (names : List (List ℕ)) (repertoire : Repertoire) (list : List Scored) (decisions : List Decision) (witnesses : List (List ℕ)) (example : List ℕ) (traces events : ℕ)
+    → depth (model_report names repertoire list decisions witnesses example traces events) ≤ 6
+model_depth names repertoire list decisions witnesses example traces events =
     let value : Scored × Option (List ℕ) → Data = λ p. listed_value names p.0 p.1 in
     let kept = with_witnesses list decisions witnesses in
     report repertoire (map value kept) (dropped_values names list decisions) names example traces events
     (items value 3 (λ p. listed_depth names p.0 p.1) kept) (dropped names list decisions)
+
+pub depth-model_report : (names : List (List ℕ)) (repertoire : Repertoire) (list : List Scored) (decisions : List Decision) (witnesses : List (List ℕ)) (example : List ℕ) (traces events : ℕ)
+    → depth (model_report names repertoire list decisions witnesses example traces events) ≤ max_depth
+depth-model_report names repertoire list decisions witnesses example traces events = omega (arith, model_depth names repertoire list decisions witnesses example traces events)
+
+-- ---- certificates
+
+numbers : (ns : List ℕ) → depth (numbers_value ns) ≤ 1
+numbers ns = omega (arith, items (λ n. number (unsigned n)) 0 (λ _. omega arith) ns)
+
+tuples : (ts : List (List ℕ)) → depth (tuples_value ts) ≤ 2
+tuples ts = omega (arith, items numbers_value 1 numbers ts)
+
+link : (l : LinkParts) → depth (link_value l) ≤ 3
+link l = omega (arith, items mark_value 0 (λ _. omega arith) l.accepting, numbers l.columns, tuples (rows_of l), tuples l.pairs)
+
+pub depth-certificate : (names : List (List ℕ)) (repertoire : Repertoire) (list : List Scored) (decisions : List Decision) (witnesses : List (List ℕ)) (example : List ℕ) (traces events : ℕ) (chain : ChainParts)
+    → depth (certificate_object (model_report names repertoire list decisions witnesses example traces events) chain) ≤ max_depth
+depth-certificate names repertoire list decisions witnesses example traces events chain =
+    omega (arith, items link_value 3 link chain.links, items tuples_value 2 tuples chain.implied, model_depth names repertoire list decisions witnesses example traces events)

@@ -1,6 +1,6 @@
 -- A report has no float, so its text is known.
 use Rattle.std.proofs.Common.{◌≡◌, ℕ, List, [], ◌∷◌, false, ◌||◌, map, codes, not, true, Option, None, Some, refl, ap, ap₂, ◌∙◌}
-use Rattle.serde_json.specs.Data.{Data, Members, boolean, string, member, no_members}
+use Rattle.serde_json.specs.Data.{Data, Members, boolean, number, unsigned, string, member, no_members}
 use Rattle.serde_json.specs.View.{items_of}
 use Rattle.serde_json.specs.Written.{has_float, items_have_float, members_have_float}
 use Rattle.scoring.specs.declared.scored.Scored.{Scored}
@@ -11,6 +11,8 @@ use Rattle.reduce_model.specs.Sifting.{Sifting}
 use Rattle.reduce_model.specs.declared.decision.Decision.{Decision}
 use Rattle.reduce_model.specs.declared.decision.Decision.TheVariants.{Kept, Conflict, Weaker, FirstPass, SecondPass, Beyond, Untested}
 use Rattle.reduce_model.specs.Deciding.{is_kept}
+use Rattle.chain_cert.specs.Parts.{ChainParts, LinkParts}
+use Rattle.model_json.specs.ChainValue.{certificate_object, link_value, mark_value, numbers_value, rows_of, tuples_value}
 use Rattle.model_json.specs.Report.{activities_of, parameter_value, parameters_value, constraint_value, scored_members, scored_value, witnessed_value, trace_value, decided_value, why, decided, staying, with_witnesses, untested_value, listed_value, dropped_values, report_object, scores_report, consistent_report, model_report, name_at, versioned}
 
 pub items_have_float-map : {A : Type 0} (f : A → Data) → ((x : A) → has_float (f x) ≡ false) → (xs : List A) → items_have_float (items_of (map f xs)) ≡ false
@@ -87,3 +89,17 @@ has_float-model_report names repertoire list decisions witnesses example traces 
     let kept = with_witnesses list decisions witnesses in
     report repertoire (map value kept) (dropped_values names list decisions) names example traces events
     (items_have_float-map value (λ p. has_float-listed_value names p.0 p.1) kept) (dropped names list decisions)
+
+-- ---- certificates
+
+numbers : (ns : List ℕ) → has_float (numbers_value ns) ≡ false
+numbers ns = items_have_float-map (λ n. number (unsigned n)) (λ _. refl) ns
+
+tuples : (ts : List (List ℕ)) → has_float (tuples_value ts) ≡ false
+tuples ts = items_have_float-map numbers_value numbers ts
+
+link : (l : LinkParts) → has_float (link_value l) ≡ false
+link l = rw (items_have_float-map mark_value (λ _. refl) l.accepting, numbers l.columns, tuples (rows_of l), tuples l.pairs) refl
+
+pub has_float-certificate : (report : Data) (chain : ChainParts) → has_float report ≡ false → has_float (certificate_object report chain) ≡ false
+has_float-certificate report chain none = rw (items_have_float-map link_value link chain.links, items_have_float-map tuples_value tuples chain.implied, none) refl

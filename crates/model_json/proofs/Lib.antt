@@ -13,3 +13,7 @@ pub mod ModelsWithin
 pub mod ReadBack
 pub mod Values
 mod WholeReport
+pub mod ClaimForms
+pub mod LinksRead
+pub mod OneByOne
+pub mod TaskNames

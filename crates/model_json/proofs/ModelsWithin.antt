@@ -170,7 +170,7 @@ counted kind (Some names) put h = go (eqb (length names) (arity kind)) refl h
     go false e is = absurd (cc)
 
 -- what an item adds
-item-made : (repertoire : Repertoire) (number : ℕ) (names : List (List ℕ)) (value : Data) (next : Constraint × List (List ℕ)) → item_read repertoire number names value ≡ Ok next
+pub item-made : (repertoire : Repertoire) (number : ℕ) (names : List (List ℕ)) (value : Data) (next : Constraint × List (List ℕ)) → item_read repertoire number names value ≡ Ok next
     → (put : List (List ℕ)) × (next.1 ≡ fold with_name names put) × (length next.1 ≤ standard.activities) × IsWellMadeFor (length next.1) next.0
 item-made repertoire number names value next h =
     let texts = answered (ok_or (item_of value) (ModelShape number)) _ next h in

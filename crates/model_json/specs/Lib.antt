@@ -1,2 +1,4 @@
 pub mod Model
 pub mod Report
+pub mod Certificate
+pub mod ChainValue

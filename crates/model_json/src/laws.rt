@@ -7,6 +7,8 @@ ghost use Rattle.reduce_model.specs.Sifting.{Sifting};
 ghost use Rattle.reduce_model.specs.declared.decision.Decision.{Decision as DecisionOf};
 ghost use Rattle.scoring.specs.declared.scored.Scored.{Scored as ScoredOf};
 ghost use Rattle.template_core.specs.declared.repertoire.Repertoire.{Repertoire as RepertoireOf};
+ghost use Rattle.chain_cert.specs.Parts.{ChainParts};
+ghost use Rattle.model_json.specs.ChainValue.{certificate_object};
 ghost use Rattle.model_json.specs.Model.{Known, IsListed, IsModel, IsOfModel, listed, model_of, model_of_bytes};
 ghost use Rattle.model_json.specs.Report.{is_tested, consistent_report, model_report, scores_report, staying, IsLineOf};
 
@@ -58,6 +60,9 @@ pub fn reports_are_shallow()
     ensures model { (names : List (List ℕ)) (repertoire : RepertoireOf) (list : List ScoredOf)
         (decisions : List DecisionOf) (witnesses : List (List ℕ)) (example : List ℕ) (traces events : ℕ)
         → depth (model_report names repertoire list decisions witnesses example traces events) ≤ max_depth }
+    ensures certificate { (names : List (List ℕ)) (repertoire : RepertoireOf) (list : List ScoredOf)
+        (decisions : List DecisionOf) (witnesses : List (List ℕ)) (example : List ℕ) (traces events : ℕ) (chain : ChainParts)
+        → depth (certificate_object (model_report names repertoire list decisions witnesses example traces events) chain) ≤ max_depth }
 {}
 
 /// A report has no float, so its text is known.
@@ -69,4 +74,5 @@ pub fn reports_have_no_float()
     ensures model { (names : List (List ℕ)) (repertoire : RepertoireOf) (list : List ScoredOf)
         (decisions : List DecisionOf) (witnesses : List (List ℕ)) (example : List ℕ) (traces events : ℕ)
         → has_float (model_report names repertoire list decisions witnesses example traces events) ≡ false }
+    ensures certificate { (report : Data) (chain : ChainParts) → has_float report ≡ false → has_float (certificate_object report chain) ≡ false }
 {}

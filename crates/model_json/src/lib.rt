@@ -1,16 +1,23 @@
 //! Reports as JSON values, their texts, and the models that are read back.
 #![tactic(auto)]
 
+mod certificates;
+mod chain_values;
+mod claims;
 mod constraints;
 mod decisions;
 mod items;
 mod known;
 mod laws;
+mod links;
+mod lists;
 mod reading;
 mod report;
 mod shapes;
 mod text;
 
+pub use certificates::read_certificate;
+pub use chain_values::certificate_value;
 pub use constraints::trace_value;
 pub use decisions::{is_tested, staying};
 pub use known::KnownModel;

@@ -34,7 +34,7 @@ pub fn read_model(alloc: Global, bytes: &[u8]) -> Result<KnownModel, Refusal>
 }
 
 /// The value that the bytes are, where they are JSON.
-fn json_of(alloc: Global, bytes: &[u8]) -> Result<Value, Refusal>
+pub(crate) fn json_of(alloc: Global, bytes: &[u8]) -> Result<Value, Refusal>
     ensures value { IfOk result (λ value. json_of bytes.now ≡ Ok (view value)) }
     ensures refusal { IfErr result (ModelCause (json_of bytes.now)) }
 {
@@ -67,7 +67,7 @@ fn model_of(alloc: Global, value: &Value) -> Result<KnownModel, Refusal>
 }
 
 /// The names of the tasks, each once.
-fn task_names(alloc: Global, tasks: &[Value]) -> Result<Alphabet, Refusal>
+pub(crate) fn task_names(alloc: Global, tasks: &[Value]) -> Result<Alphabet, Refusal>
     ensures names { IfOk result (λ names. within (first_seen (filter_map as_str (map view tasks.now))) ≡ Ok names.names) }
     ensures limit { IfOk result (λ names. names.limit ≡ standard.activities) }
     ensures refusal { IfErr result (ModelCause (within (first_seen (filter_map as_str (map view tasks.now))))) }

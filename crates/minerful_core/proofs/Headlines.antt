@@ -115,7 +115,7 @@ shows_certificate s bytes log text old new held mines read is =
     let list = candidates_in s log in
     let told = modelled Cert s log text mines.stage mines.out is in
     let reduced = subst (λ keep. IsReductionBy keep (length (sorted_names log)) s.states (constraints_in list) told.0.reduction) mines.stops_at_limit told.1.reduced in
-    (log, list, told.0, read, held ∙ ap (append_known old.held) (same_text text told.0.text told.2), told.1.written, headline s log told.0.reduction reduced, told.1.reads, told.1.right)
+    (log, list, told.0, read, held ∙ ap (append_known old.held) (same_text text told.0.text told.2), headline s log told.0.reduction reduced, told.1)
 
 -- ---- from the words to what is printed
 

@@ -29,7 +29,8 @@ module _ (s : Settings) (log : List (List (List ℕ))) (status : Status) (text :
       reduction-agrees n s.states (constraints_in list) reduction made is
 
   modelled : (out : Out) → IsModelOutcomeAs out (stopping s) (candidates_in s log) log (answers status text) → IsModelOutcomeAs out (keeping_on s) (candidates_in s log) log (answers status text)
-  modelled Cert is = (is.0, record { reduced = agrees is.0.reduction is.1.reduced; written = is.1.written; reads = is.1.reads; right = is.1.right }, is.2)
+  modelled Cert is =
+      (is.0, record { reduced = agrees is.0.reduction is.1.reduced; form = is.1.form; right = is.1.right; written = is.1.written; verified = is.1.verified }, is.2)
   modelled Json is = (is.0, agrees is.0 is.1, is.2)
   modelled Table is = (is.0, agrees is.0 is.1, is.2)
 

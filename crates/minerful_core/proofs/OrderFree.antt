@@ -14,8 +14,8 @@ use Rattle.minerful_words.specs.declared.settings.Settings.{Settings}
 use Rattle.minerful_words.specs.declared.settings.Stage.{Stage}
 use Rattle.minerful_words.specs.declared.settings.Stage.TheVariants.{Consistent, Model, Scores}
 use Rattle.chain_cert.specs.Checks.{IsRight}
+use Rattle.chain_cert.specs.Forms.{IsChain}
 use Rattle.chain_make.specs.Claims.{claim_of}
-use Rattle.model_json.specs.Certificate.{IsCertificateText}
 use Rattle.reduce_model.specs.Reduction.{Reduction}
 use Rattle.report_text.specs.KbTable.{kb_text}
 use Rattle.scoring.specs.Candidates.{candidates_of}
@@ -68,7 +68,8 @@ module _ (log other : List (List (List ℕ))) (h : HoldTheSame log other) where
         record {
           reduced = subst (λ n. IsReductionBy s.keep n s.states cs reduction) as_many is.1.reduced;
           written = is.1.written ∙ told_same (certificate_text s.repertoire list reduction chain);
-          reads = subst (λ n. IsCertificateText is.0.text (claim_of n cs reduction) chain) as_many is.1.reads;
+          form = subst (λ n. IsChain (claim_of n cs reduction) chain) as_many is.1.form;
+          verified = is.1.verified;
           right = subst (λ n. IsRight (claim_of n cs reduction) chain) as_many is.1.right;
         },
         is.2,

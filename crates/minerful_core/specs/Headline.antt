@@ -2,10 +2,6 @@
 use Rattle.std.specs.Prelude.{◌≡◌, ◌↔◌, ◌⊎◌, ℕ, suc, List, [], ◌∷◌, ◌++◌, true, false, All, Some, Ok, length, take, drop, slice_get}
 use Rattle.std.specs.Io.KnownBytes.{append_known}
 use Rattle.decl_outside.specs.Sink.{SinkState}
-use Rattle.chain_cert.specs.Checks.{IsVerdict}
-use Rattle.chain_cert.specs.declared.verdict.Verdict.TheVariants.{Yes}
-use Rattle.chain_make.specs.Claims.{claim_of}
-use Rattle.model_json.specs.Certificate.{IsCertificateText}
 use Rattle.dfa_core.specs.Languages.{HasNoMember}
 use Rattle.dfa_core.specs.Traces.{IsTrace}
 use Rattle.event_log.specs.Logs.{by_ranks, sorted_names}
@@ -24,7 +20,7 @@ use Rattle.scoring.specs.Scores.{scored}
 use Rattle.scoring.specs.declared.scored.Scored.{Scored}
 use Rattle.template_core.specs.Keeping.{KeepsAll}
 use Rattle.template_core.specs.declared.constraint.Constraint.{Constraint}
-use Rattle.minerful_core.specs.Outcome.{candidates_in, certificate_text, constraints_in, log_of, model_text, text_of_log, Certified}
+use Rattle.minerful_core.specs.Outcome.{candidates_in, constraints_in, log_of, model_text, text_of_log, Certified, IsCertified}
 
 -- the settings ask for the reduced model of a log, as JSON, and to stop at the limit
 pub record MinesModel (s : Settings) : Type 0 where
@@ -132,12 +128,9 @@ PrintsWithin s bytes old new =
     (log : List (List (List ℕ))) × (list : List Scored) × (reduction : Reduction) × (log_of s.format s.columns bytes ≡ Ok log)
     × (new.held ≡ append_known old.held (text_of_log (model_text Json s.repertoire list reduction) log)) × IsHeadlineWithin s log list reduction
 
--- There are the log of an input and a certificate that stands on the output more. The sentence holds of its report; and as a
--- certificate it is read as a claim, that of the report, and a chain, of which the verdict is yes.
+-- There are the log of an input and a certificate that stands on the output more. The sentence holds of its report, all checks of
+-- its chain hold for what the report claims, and verifying its text says yes.
 abbrev pub PrintsCertificate : Settings → List ℕ → SinkState → SinkState → Type 0
 PrintsCertificate s bytes old new =
     (log : List (List (List ℕ))) × (list : List Scored) × (certified : Certified) × (log_of s.format s.columns bytes ≡ Ok log)
-    × (new.held ≡ append_known old.held certified.text)
-    × (certified.text ≡ text_of_log (certificate_text s.repertoire list certified.reduction certified.chain) log) × IsHeadline s log list certified.reduction
-    × IsCertificateText certified.text (claim_of (activities_in log) (constraints_in list) certified.reduction) certified.chain
-    × IsVerdict (claim_of (activities_in log) (constraints_in list) certified.reduction) certified.chain Yes
+    × (new.held ≡ append_known old.held certified.text) × IsHeadline s log list certified.reduction × IsCertified s list log certified

@@ -1,17 +1,16 @@
-ghost use Rattle.std.specs.Prelude.{◌≡◌, ◌<◌, length, count_by, All, IfOk, IfErr};
-ghost use Rattle.chain_cert.specs.Forms.{IsChain};
-ghost use Rattle.model_json.specs.Certificate.{IsCertificateText};
-ghost use Rattle.model_json.specs.Claimed.{MayBeClaimed, claim_by};
+ghost use Rattle.std.specs.Prelude.{◌≡◌, ◌<◌, length, count_by, true, All, IfOk, IfErr};
 ghost use Rattle.model_json.specs.Model.{AreOf};
 ghost use Rattle.model_json.specs.Report.{is_tested};
 ghost use Rattle.template_core.specs.Constraints.{IsWellMadeFor};
-ghost use Rattle.minerful_core.specs.Outcome.{certificate_text, scores_text, consistent_text, model_text};
+ghost use Rattle.minerful_core.specs.Outcome.{IsVerifiedText, certificate_text, scores_text, consistent_text, model_text};
 
-use chain_cert::Chain;
+use chain_cert::{Chain, Verdict, verify};
 use decl_base::Refusal;
 use event_log::Alphabet;
 use minerful_words::{Out, Settings};
-use model_json::{certificate_value, consistent_value, report_value, scores_value, text_of};
+use model_json::{
+    certificate_value, consistent_value, read_certificate, report_value, scores_value, text_of,
+};
 use reduce_model::{Reduced, Sifted};
 use report_text::{consistent_table, model_table, scores_table};
 use scoring::Scored;
@@ -110,7 +109,8 @@ pub(crate) fn write_model(
     }
 }
 
-/// The certificate of candidates at stage `model`, over names in byte order.
+/// The certificate of candidates at stage `model`, over names in byte order. It is read back and verified before it is handed on:
+/// a text that isn't a certificate whose verdict is yes is none, and is answered as `Memory`.
 pub(crate) fn write_certificate(
     alloc: Global,
     settings: &Settings,
@@ -121,11 +121,14 @@ pub(crate) fn write_certificate(
     traces: u64,
     events: u64,
 ) -> Result<Vec<u8>, Refusal>
-    requires claimed { MayBeClaimed names.now.names settings.now.repertoire list.now reduced.now.decisions reduced.now.witnesses reduced.now.example }
-    requires form { IsChain (claim_by names.now.names list.now reduced.now.decisions reduced.now.witnesses reduced.now.example) chain.now }
+    requires made { All (λ scored. IsWellMadeFor (length names.now.names) scored.constraint) list.now }
+    requires repertoire { AreOf settings.now.repertoire list.now }
+    requires decisions { length reduced.now.decisions ≡ length list.now }
+    requires witnesses { length reduced.now.witnesses ≡ count_by is_tested reduced.now.decisions }
+    requires witness { All (λ trace. All (λ rank. rank < length names.now.names) trace) reduced.now.witnesses }
+    requires example { All (λ rank. rank < length names.now.names) reduced.now.example }
     ensures text { IfOk result (λ text. text.items ≡ certificate_text settings.now.repertoire list.now reduced.now chain.now names.now.names traces events) }
-    ensures reads { IfOk result (λ text. IsCertificateText text.items
-        (claim_by names.now.names list.now reduced.now.decisions reduced.now.witnesses reduced.now.example) chain.now) }
+    ensures verified { IfOk result (λ text. IsVerifiedText text.items) }
     ensures err { IfErr result (λ e. e ≡ Refusal.Memory) }
 {
     let report = report_value(
@@ -138,5 +141,20 @@ pub(crate) fn write_certificate(
         events,
     )?;
     let certificate = certificate_value(alloc, report, chain)?;
-    text_of(alloc, &certificate)
+    let text = text_of(alloc, &certificate)?;
+    if is_verified(alloc, &text) {
+        Ok(text)
+    } else {
+        Err(Refusal::Memory)
+    }
+}
+
+/// Whether the text is a certificate whose verdict is yes; not so, too, where memory for that isn't there.
+fn is_verified(alloc: Global, text: &[u8]) -> bool
+    ensures { result ≡ true → IsVerifiedText text.now }
+{
+    match read_certificate(alloc, text) {
+        Ok((claim, chain)) => verify(&claim, &chain) == Verdict::Yes,
+        Err(_) => false,
+    }
 }

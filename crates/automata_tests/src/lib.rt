@@ -1,10 +1,8 @@
-//! What no clause says of the crates of automata, and of certificates: their public calls on their happy paths, and worked rows.
+//! What no clause says of the crates of automata: their public calls on their happy paths, and worked rows.
 #![tactic(auto)]
 
 #[cfg(test)]
 mod analyses;
-#[cfg(test)]
-mod certificate_files;
 #[cfg(test)]
 mod certificates;
 #[cfg(test)]

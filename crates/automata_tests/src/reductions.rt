@@ -8,7 +8,7 @@ use std::alloc::{AllocError, Global};
 use std::test::Fail;
 use template_core::{Constraint, Kind};
 
-pub(crate) fn one(kind: Kind, first: u32) -> Constraint {
+fn one(kind: Kind, first: u32) -> Constraint {
     Constraint {
         kind,
         first,
@@ -56,7 +56,7 @@ fn is_well_made(constraint: &Constraint, symbols: u32) -> bool
 }
 
 // Whether a list may be sifted and reduced.
-pub(crate) fn admitted(list: &[Constraint], symbols: u32, states: u64) -> Result<(), Refusal>
+fn admitted(list: &[Constraint], symbols: u32, states: u64) -> Result<(), Refusal>
     ensures made { OnOk result (All (IsWellMadeFor symbols) list.now) }
     ensures few { OnOk result (length list.now ≤ 65536) }
     ensures some_states { OnOk result (1 ≤ states) }

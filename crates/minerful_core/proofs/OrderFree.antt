@@ -59,7 +59,7 @@ module _ (log other : List (List (List ℕ))) (h : HoldTheSame log other) where
       (λ reduction. told_same (text reduction)) o is
 
   certified_same : (s : Settings) (list : List Scored) (o : Outcome) → IsCertifiedOutcome s list log o → IsCertifiedOutcome s list other o
-  certified_same s list (answers done text) is =
+  certified_same s list (answers st text) is =
       let cs = constraints_in list in
       let as_many = ap length (same_names log other h) in
       let reduction = is.0.reduction in

@@ -1,9 +1,10 @@
-use Rattle.std.proofs.Common.{ap, sym, ◌∙◌}
+use Rattle.std.proofs.Common.{ap, refl, ◌∙◌}
 use Rattle.std.proofs.lemmas.Result.{IfOk-weaker}
 use Rattle.serde_json.specs.Written.{has_float}
 use Rattle.model_json.specs.Report.{report_text}
 use Rattle.model_json.proofs.Floats.{has_float-model_report}
 use Rattle.minerful_core.specs.Outcome.{model_text}
+use Rattle.minerful_core.proofs.Reports.{as_report}
 use Rattle.minerful_core.proofs.writing.write_model.Goals as goal
 
 pub returns-in_ok-value-in-Json-clause-text : goal.returns-in_ok-value-in-Json-clause-text
@@ -11,4 +12,4 @@ returns-in_ok-value-in-Json-clause-text c =
     let reduced = c.args.reduced.now in
     let no_float = ap has_float c.in_ok-value-in-Json.ensures.value ∙ has_float-model_report c.args.names.now.names c.args.settings.now.repertoire c.args.list.now reduced.decisions reduced.witnesses reduced.example c.args.traces c.args.events in
     IfOk-weaker c.text_of.result _ _ (λ text h. h ∙ ap report_text c.in_ok-value-in-Json.ensures.value
-    ∙ ap (λ out. model_text out c.args.settings.now.repertoire c.args.list.now reduced c.args.names.now.names c.args.traces c.args.events) (sym c.in-Json.is)) (c.text_of.ensures.text no_float)
+    ∙ as_report (λ out. model_text out c.args.settings.now.repertoire c.args.list.now reduced c.args.names.now.names c.args.traces c.args.events) c.args.settings.now.out refl c.in-Json.is) (c.text_of.ensures.text no_float)

@@ -72,9 +72,11 @@ returns-clause-text c =
     let form = subst (λ l. IsChain (claim_of n l reduction) chain) same c.in_ok-chain.ensures.form in
     let right = subst (λ l. IsRight (claim_of n l reduction) chain) same c.in_ok-chain.ensures.right in
     both_ok c.write_certificate.result _ _ _
-    (λ text h verified ids is.
-      (record { reduction = reduction; chain = chain; text = text.items },
+    (λ text h verified ids is. (
+      record { reduction = reduction; chain = chain; text = text.items },
       is_certified names ids n s list c.deref.result.now reduction chain text.items is.within.numbering c.len-tasks.ensures first c.requires.stops c.in_ok-reduced.ensures.ok form right
-      (h ∙ text-is (certificate_text s.repertoire list reduction chain) names ids c.in_ok-ordered.ordered.names c.traces.result c.events.result is.within.numbering
-      (ap (λ o. o.names) c.in_ok-ordered.ensures.ok) (c.traces.ensures ids [] is.stands) (events_are ids c.events.result (c.events.ensures ids [] is.stands))) verified, refl))
+          (h ∙ text-is (certificate_text s.repertoire list reduction chain) names ids c.in_ok-ordered.ordered.names c.traces.result c.events.result is.within.numbering
+          (ap (λ o. o.names) c.in_ok-ordered.ensures.ok) (c.traces.ensures ids [] is.stands) (events_are ids c.events.result (c.events.ensures ids [] is.stands))) verified,
+      refl,
+    ))
     c.write_certificate.ensures.text c.write_certificate.ensures.verified

@@ -39,6 +39,7 @@ CHECKS = [
     Check(["allocations.py"], "runs with too little memory", PASSED_FAILED),
     Check(["fuzz.py"], "runs on random bytes and words", PASSED_FAILED),
     Check(["expressions.py"], "words looked up in the templates' expressions", PASSED_FAILED),
+    Check(["piped.py"], "lines of a pipe answered one by one", PASSED_FAILED),
     Check(["certificates.py"], "certificates verified, as made and changed", PASSED_FAILED),
     Check(["by_definition.py", "--no-limits"], "runs that are as defined", r"^(?P<passed>\d+) runs, no difference$"),
 ]

@@ -9,8 +9,6 @@ mod logs;
 #[cfg(test)]
 mod models;
 #[cfg(test)]
-mod running_cases;
-#[cfg(test)]
 mod string_logs;
 #[cfg(test)]
 mod words;

@@ -1,3 +1,4 @@
+use crate::limits::STATES;
 use model_compare::analyse;
 use std::test::Fail;
 use template_core::{Constraint, Kind};
@@ -23,7 +24,7 @@ fn a_model_is_analysed(rt: HostRuntime) -> Result<(), Fail> {
             second: 0,
         },
     ];
-    let analysed = analyse(alloc, &list, 3, 16_384, 3)?;
+    let analysed = analyse(alloc, &list, 3, STATES, 3)?;
     match analysed.accepts() {
         Some(trace) => assert_eq!(rt; trace.events(), [0].as_slice()),
         None => assert!(rt; false),

@@ -1,5 +1,6 @@
 ghost use Rattle.template_core.specs.Constraints.{IsWellMade, IsWellMadeFor};
 
+use crate::limits::STATES;
 use decl_base::{Refusal, Trace};
 use model_compare::{Relation, compare};
 use std::test::Fail;
@@ -41,20 +42,20 @@ fn models_are_compared(rt: HostRuntime) -> Result<(), Fail> {
     let alloc = rt.alloc();
     let chain = [of_two(Kind::ChainResponse)];
     let alternate = [of_two(Kind::AlternateResponse)];
-    let stronger = compare(alloc, &chain, &alternate, 3, 16_384)?;
+    let stronger = compare(alloc, &chain, &alternate, 3, STATES)?;
     assert_eq!(rt; stronger.relation(), Relation::Stronger);
     assert!(rt; stronger.only_first().is_none());
     assert!(rt; is_trace(stronger.only_second(), &[0, 2, 1]));
-    let weaker = compare(alloc, &alternate, &chain, 3, 16_384)?;
+    let weaker = compare(alloc, &alternate, &chain, 3, STATES)?;
     assert_eq!(rt; weaker.relation(), Relation::Weaker);
-    let equal = compare(alloc, &chain, &chain, 3, 16_384)?;
+    let equal = compare(alloc, &chain, &chain, 3, STATES)?;
     assert_eq!(rt; equal.relation(), Relation::Equal);
     let neither = compare(
         alloc,
         &[of_one(Kind::Init)],
         &[of_one(Kind::End)],
         2,
-        16_384,
+        STATES,
     )?;
     assert_eq!(rt; neither.relation(), Relation::Neither);
     assert!(rt; is_trace(neither.only_first(), &[0, 1]));

@@ -10,6 +10,8 @@ mod comparisons;
 #[cfg(test)]
 mod least_automata;
 #[cfg(test)]
+mod limits;
+#[cfg(test)]
 mod lists;
 #[cfg(test)]
 mod monitors;

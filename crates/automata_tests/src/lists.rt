@@ -1,4 +1,5 @@
 ghost use Rattle.std.specs.Prelude.{◌≤◌};
+ghost use Rattle.decl_base.specs.Limits.{greatest_state_limit};
 
 use decl_base::Refusal;
 use list_dfa::{Listed, automaton_of};
@@ -9,7 +10,7 @@ use template_core::{Constraint, Kind};
 // The activity 0 takes part, and the activity 1 at most once: two states tell of the first, and two of the second where it isn't broken.
 fn listed(alloc: Global, states: u64) -> Result<Listed, Refusal>
     requires some { 1 ≤ states }
-    requires few { states ≤ 65536 }
+    requires few { states ≤ greatest_state_limit }
 {
     let takes_part = Constraint {
         kind: Kind::Participation,

@@ -1,7 +1,9 @@
 ghost use Rattle.std.specs.Bool.{OnTrue};
 ghost use Rattle.std.specs.Prelude.{◌≤◌, length, All, OnOk};
+ghost use Rattle.decl_base.specs.Limits.{greatest_state_limit, standard};
 ghost use Rattle.template_core.specs.Constraints.{IsWellMadeFor};
 
+use crate::limits::{MOST_CONSTRAINTS, MOST_STATES, STATES};
 use decl_base::Refusal;
 use reduce_model::{Decision, Reduced, Sifted, reduce, reduce_within, sift, sift_within};
 use std::alloc::{AllocError, Global};
@@ -58,16 +60,16 @@ fn is_well_made(constraint: &Constraint, symbols: u32) -> bool
 // Whether a list may be sifted and reduced.
 fn admitted(list: &[Constraint], symbols: u32, states: u64) -> Result<(), Refusal>
     ensures made { OnOk result (All (IsWellMadeFor symbols) list.now) }
-    ensures few { OnOk result (length list.now ≤ 65536) }
+    ensures few { OnOk result (length list.now ≤ standard.candidates) }
     ensures some_states { OnOk result (1 ≤ states) }
-    ensures few_states { OnOk result (states ≤ 65536) }
+    ensures few_states { OnOk result (states ≤ greatest_state_limit) }
 {
     for constraint in list {
         if !is_well_made(constraint, symbols) {
             return Err(Refusal::NotJson);
         }
     }
-    if list.len() > 65_536 || states < 1 || states > 65_536 {
+    if list.len() > MOST_CONSTRAINTS || states < 1 || states > MOST_STATES {
         return Err(Refusal::NotJson);
     }
     Ok(())
@@ -111,7 +113,7 @@ fn later_conflicts_are_dropped(rt: HostRuntime) -> Result<(), Fail> {
         one(Kind::Participation, 0),
         one(Kind::Participation, 1),
     ];
-    let sifted = sifted(rt.alloc(), &list, 2, 16_384)?;
+    let sifted = sifted(rt.alloc(), &list, 2, STATES)?;
     for (place, decision) in sifted.decisions().iter().enumerate() {
         let want = match place {
             8 | 10 | 12 => Decision::Conflict,
@@ -129,7 +131,7 @@ fn example_is_shortest(rt: HostRuntime) -> Result<(), Fail> {
     let empty = sifted(rt.alloc(), &[], 2, 1)?;
     assert!(rt; empty.example().events().is_empty());
     let list = [one(Kind::AtMostOne, 0), one(Kind::Participation, 1)];
-    let shortest = sifted(rt.alloc(), &list, 2, 16_384)?;
+    let shortest = sifted(rt.alloc(), &list, 2, STATES)?;
     assert_eq!(rt; shortest.example().events(), [1].as_slice());
     Ok(())
 }
@@ -177,7 +179,7 @@ fn is_reduced_to(
     example: &[u32],
 ) -> Result<bool, Refusal> {
     let list = candidates(alloc, rows)?;
-    let reduced = reduced(alloc, &list, symbols, 16_384)?;
+    let reduced = reduced(alloc, &list, symbols, STATES)?;
     Ok(is_as_told(rows, &reduced, witnesses, example))
 }
 

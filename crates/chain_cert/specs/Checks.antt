@@ -1,5 +1,5 @@
 -- The four checks, and what verifying answers.
-use Rattle.std.specs.Prelude.{◌≡◌, ◌≢◌, ◌⊎◌, ℕ, ◌+◌, ◌<◌, List, [], ◌∷◌, length, true, not, All}
+use Rattle.std.specs.Prelude.{◌≡◌, ◌≢◌, ◌⊎◌, ℕ, ◌+◌, ◌<◌, List, [], ◌∷◌, length, true, not, All, Option, MatchOption}
 use Rattle.template_core.specs.Tables.{accepts_at, class, step as table_step}
 use Rattle.template_core.specs.declared.constraint.Constraint.{Constraint}
 use Rattle.template_core.specs.declared.table.Table.{Table}
@@ -84,6 +84,10 @@ pub record FailsFirstAt (P : ℕ → Type 0) (n at : ℕ) : Type 0 where
   pub there : place < n
   pub earlier : (i : ℕ) → i < place → P i
   pub fails : P place → ⊥
+
+-- where a check fails first among n items, or that it holds of each
+abbrev pub IsFirstFailure : (ℕ → Type 0) → ℕ → Option ℕ → Type 0
+IsFirstFailure P n found = MatchOption found (HoldsOfEach P n) (FailsFirstAt P n)
 
 -- all four checks hold
 pub record IsRight (claim : ClaimParts) (chain : ChainParts) : Type 0 where

@@ -4,6 +4,7 @@ use Rattle.std.specs.Cmp.Lexicographic.{slice_cmp}
 use Rattle.std.specs.List.{AllAdjacentBelow}
 use Rattle.std.specs.Ordering.{nat_cmp}
 use Rattle.std.specs.declared.cmp.Ordering.TheVariants.{Less}
+use Rattle.decl_base.specs.Limits.{standard}
 use Rattle.template_core.specs.Constraints.{IsWellMadeFor}
 use Rattle.template_core.specs.declared.kind.Kind.{Kind}
 use Rattle.template_core.specs.declared.table.Table.{Table}
@@ -16,11 +17,11 @@ use Rattle.chain_cert.specs.declared.claim.Dropped.{Dropped}
 -- constraints and traces over the symbols, and a witness for each constraint
 pub record IsClaim (claim : ClaimParts) : Type 0 where
   pub few_symbols : claim.symbols ≤ 1000
-  pub few_constraints : length claim.model ≤ 65536
+  pub few_constraints : length claim.model ≤ standard.candidates
   pub constraints_made : All (IsWellMadeFor claim.symbols) claim.model
   pub witness_for_each : length claim.witnesses ≡ length claim.model
   pub witnesses_over : All (IsTrace claim.symbols) claim.witnesses
-  pub few_dropped : length claim.dropped ≤ 65536
+  pub few_dropped : length claim.dropped ≤ standard.candidates
   pub dropped_made : All (λ (d : Dropped). IsWellMadeFor claim.symbols d.constraint) claim.dropped
   pub example_over : IsTrace claim.symbols claim.example
 

@@ -127,7 +127,8 @@ fn pairs_fit(links: &[Link], pairs: &Pairs, constraint: &Constraint) -> bool
 fn all_pairs_fit(dropped: &[Dropped], links: &[Link], implied: &[Pairs], symbols: u32) -> bool
     requires one_each { length implied.now ≡ length dropped.now }
     requires made { All (λ d. IsWellMadeFor symbols d.constraint) dropped.now }
-    ensures { IsTrue result ↔ ((i : ℕ) → i < length dropped.now → FitsPairs (last links.now) (dropped_at dropped.now i).constraint.kind (list_at implied.now i)) }
+    ensures { IsTrue result ↔ ((i : ℕ) → i < length dropped.now
+        → FitsPairs (last links.now) (dropped_at dropped.now i).constraint.kind (list_at implied.now i)) }
 {
     for (place, item) in dropped.iter().enumerate() {
         if !pairs_fit(links, &implied[place], &item.constraint) {

@@ -3,15 +3,10 @@ ghost use Rattle.chain_cert.specs.Forms.{IsClaim};
 ghost use Rattle.chain_cert.specs.Parts.{claim_parts};
 
 use crate::forms::{are_over, are_well_made, dropped_are_well_made, is_over};
+use crate::limits::{MOST_CONSTRAINTS, MOST_SYMBOLS};
 use decl_base::Trace;
 use std::marker::Model;
 use template_core::Constraint;
-
-/// The most symbols of a claim.
-const MOST_SYMBOLS: u32 = 1_000;
-
-/// The most constraints of a claim, and the most dropped ones.
-const MOST_CONSTRAINTS: usize = 65_536;
 
 /// A constraint that isn't in the printed model.
 #[derive(Clone, Copy, Debug, PartialEq, Eq)]

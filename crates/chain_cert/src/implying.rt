@@ -1,9 +1,10 @@
-ghost use Rattle.std.specs.Prelude.{◌≡◌, ◌↔◌, ◌<◌, ◌≤◌, ℕ, true, not, All, IsTrue, MatchOption, length};
+ghost use Rattle.std.specs.Prelude.{◌≡◌, ◌↔◌, ◌<◌, ◌≤◌, ℕ, true, not, All, IsTrue, length};
 ghost use Rattle.std.specs.Bool.{OnTrue};
+ghost use Rattle.decl_base.specs.Limits.{standard};
 ghost use Rattle.template_core.specs.Constraints.{IsWellMade, IsWellMadeFor};
 ghost use Rattle.template_core.specs.Tables.{IsTable, accepts_at};
 ghost use Rattle.chain_cert.specs.Alike.{HasEarlier};
-ghost use Rattle.chain_cert.specs.Checks.{ArePairsClosedUnder, Decides, FailsFirstAt, HoldsOfEach, IsDecided, step_pair};
+ghost use Rattle.chain_cert.specs.Checks.{ArePairsClosedUnder, Decides, IsDecided, IsFirstFailure, step_pair};
 ghost use Rattle.chain_cert.specs.Forms.{FitsPairs, Holds, IsAscending, left, middle};
 ghost use Rattle.chain_cert.specs.Links.{is_accepting, last, state_count};
 ghost use Rattle.chain_cert.specs.Parts.{dropped_at, list_at};
@@ -179,11 +180,11 @@ pub(crate) fn first_undecided(
     symbols: u32,
 ) -> Option<u32>
     requires made { All (λ d. IsWellMadeFor symbols d.constraint) dropped.now }
-    requires few { length dropped.now ≤ 65536 }
+    requires few { length dropped.now ≤ standard.candidates }
     requires one_each { length implied.now ≡ length dropped.now }
     requires columns { All (λ link. length link.columns ≡ symbols) links.now }
     requires fit { (i : ℕ) → i < length dropped.now → FitsPairs (last links.now) (dropped_at dropped.now i).constraint.kind (list_at implied.now i) }
-    ensures { MatchOption result (HoldsOfEach (λ i. IsDecided symbols (last links.now) (dropped_at dropped.now i) (list_at implied.now i)) (length dropped.now)) (FailsFirstAt (λ i. IsDecided symbols (last links.now) (dropped_at dropped.now i) (list_at implied.now i)) (length dropped.now)) }
+    ensures { IsFirstFailure (λ i. IsDecided symbols (last links.now) (dropped_at dropped.now i) (list_at implied.now i)) (length dropped.now) result }
 {
     for (place, item) in dropped.iter().enumerate() {
         if !is_decided(links, item, &implied[place], symbols) {

@@ -1,7 +1,8 @@
-ghost use Rattle.std.specs.Prelude.{◌≡◌, ◌↔◌, ◌<◌, ◌≤◌, ℕ, All, IsTrue, MatchOption, length};
+ghost use Rattle.std.specs.Prelude.{◌≡◌, ◌↔◌, ◌<◌, ◌≤◌, ℕ, All, IsTrue, length};
+ghost use Rattle.decl_base.specs.Limits.{standard};
 ghost use Rattle.template_core.specs.Constraints.{IsWellMade};
 ghost use Rattle.template_core.specs.declared.constraint.Constraint.{Constraint as ConstraintOf};
-ghost use Rattle.chain_cert.specs.Checks.{FailsFirstAt, HoldsOfEach, IsWitnessOf, Suits};
+ghost use Rattle.chain_cert.specs.Checks.{IsFirstFailure, IsWitnessOf, Suits};
 ghost use Rattle.template_core.specs.Keeping.{KeepsOne};
 ghost use Rattle.chain_cert.specs.Parts.{constraint_at, list_at};
 ghost use Rattle.chain_cert.specs.Tables.{IsTableOf};
@@ -26,8 +27,8 @@ fn keeps(table: &Table, constraint: &Constraint, trace: &[u32]) -> bool
 /// The number of the first constraint that the trace doesn't keep.
 pub(crate) fn first_unkept(model: &[Constraint], trace: &[u32]) -> Option<u32>
     requires made { All (λ (c : ConstraintOf). IsWellMade c.kind c.first c.second) model.now }
-    requires few { length model.now ≤ 65536 }
-    ensures { MatchOption result (HoldsOfEach (λ i. KeepsOne (constraint_at model.now i) trace.now) (length model.now)) (FailsFirstAt (λ i. KeepsOne (constraint_at model.now i) trace.now) (length model.now)) }
+    requires few { length model.now ≤ standard.candidates }
+    ensures { IsFirstFailure (λ i. KeepsOne (constraint_at model.now i) trace.now) (length model.now) result }
 {
     for (place, constraint) in model.iter().enumerate() {
         if !keeps(&table_for(constraint), constraint, trace) {
@@ -64,9 +65,9 @@ fn suited(
 /// Each template's table is made once, and read for all witnesses that are right so far.
 pub(crate) fn first_no_witness(model: &[Constraint], witnesses: &[Trace]) -> Option<u32>
     requires made { All (λ (c : ConstraintOf). IsWellMade c.kind c.first c.second) model.now }
-    requires few { length model.now ≤ 65536 }
+    requires few { length model.now ≤ standard.candidates }
     requires one_each { length witnesses.now ≡ length model.now }
-    ensures { MatchOption result (HoldsOfEach (IsWitnessOf model.now witnesses.now) (length model.now)) (FailsFirstAt (IsWitnessOf model.now witnesses.now) (length model.now)) }
+    ensures { IsFirstFailure (IsWitnessOf model.now witnesses.now) (length model.now) result }
 {
     let mut right = model.len();
     for (place, constraint) in model.iter().enumerate() {

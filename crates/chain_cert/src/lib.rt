@@ -9,6 +9,7 @@ mod forms;
 mod implying;
 mod keeping;
 mod laws;
+mod limits;
 mod link;
 mod linking;
 mod pairs;

@@ -1,9 +1,10 @@
-ghost use Rattle.std.specs.Prelude.{◌≡◌, ◌↔◌, ◌<◌, ◌≤◌, ◌∷◌, [], ℕ, true, All, IsTrue, MatchOption, length};
+ghost use Rattle.std.specs.Prelude.{◌≡◌, ◌↔◌, ◌<◌, ◌≤◌, ◌∷◌, [], ℕ, true, All, IsTrue, length};
 ghost use Rattle.std.specs.Bool.{OnTrue};
+ghost use Rattle.decl_base.specs.Limits.{standard};
 ghost use Rattle.template_core.specs.Constraints.{IsWellMade, IsWellMadeFor};
 ghost use Rattle.template_core.specs.Tables.{IsTable, accepts_at};
 ghost use Rattle.chain_cert.specs.Alike.{HasEarlier};
-ghost use Rattle.chain_cert.specs.Checks.{FailsFirstAt, HoldsOfEach, IsClosedUnder, IsRelated, Relates, step_triple};
+ghost use Rattle.chain_cert.specs.Checks.{IsClosedUnder, IsFirstFailure, IsRelated, Relates, step_triple};
 ghost use Rattle.chain_cert.specs.Forms.{FitsLink, Holds, left, middle, right};
 ghost use Rattle.chain_cert.specs.Links.{before, is_accepting, link_at, state_count};
 ghost use Rattle.chain_cert.specs.Parts.{constraint_at};
@@ -27,7 +28,8 @@ fn accepts_where_both(links: &[Link], place: usize, table: &Table, link: &Link) 
     requires table { IsTable table.now }
     requires left { All (λ triple. left triple < state_count (before links.now place)) link.now.pairs }
     requires middle { All (λ triple. middle triple < table.now.states) link.now.pairs }
-    ensures { IsTrue result ↔ All (λ triple. is_accepting (before links.now place) (left triple) ≡ true → accepts_at table.now (middle triple) ≡ true → is_accepting link.now (right triple) ≡ true) link.now.pairs }
+    ensures { IsTrue result ↔ All (λ triple. is_accepting (before links.now place) (left triple) ≡ true
+        → accepts_at table.now (middle triple) ≡ true → is_accepting link.now (right triple) ≡ true) link.now.pairs }
 {
     for triple in link.pairs() {
         if accepts_before(links, place, triple[0])
@@ -211,11 +213,11 @@ fn is_related(
 /// The number of the first link that the automaton before it and its constraint don't lead to.
 pub(crate) fn first_unrelated(model: &[Constraint], links: &[Link], symbols: u32) -> Option<u32>
     requires made { All (IsWellMadeFor symbols) model.now }
-    requires few { length model.now ≤ 65536 }
+    requires few { length model.now ≤ standard.candidates }
     requires one_each { length links.now ≡ length model.now }
     requires columns { All (λ link. length link.columns ≡ symbols) links.now }
     requires fit { (i : ℕ) → i < length model.now → FitsLink symbols (before links.now i) (constraint_at model.now i).kind (link_at links.now i) }
-    ensures { MatchOption result (HoldsOfEach (λ i. IsRelated symbols (before links.now i) (constraint_at model.now i) (link_at links.now i)) (length model.now)) (FailsFirstAt (λ i. IsRelated symbols (before links.now i) (constraint_at model.now i) (link_at links.now i)) (length model.now)) }
+    ensures { IsFirstFailure (λ i. IsRelated symbols (before links.now i) (constraint_at model.now i) (link_at links.now i)) (length model.now) result }
 {
     for (place, constraint) in model.iter().enumerate() {
         if !is_related(links, place, constraint, &links[place], symbols) {

@@ -1,4 +1,5 @@
 ghost use Rattle.std.specs.Prelude.{◌≡◌, ◌≤◌, [], All, IfOk, IfErr, length};
+ghost use Rattle.decl_base.specs.Limits.{standard};
 ghost use Rattle.template_core.specs.Constraints.{IsWellMadeFor};
 ghost use Rattle.dfa_core.specs.Languages.{IsLeastMember};
 ghost use Rattle.reduce_model.specs.Deciding.{is_kept, those};
@@ -82,7 +83,7 @@ pub fn make_claim(
     symbols: u32,
 ) -> Result<Claim, Refusal>
     requires made { All (IsWellMadeFor symbols) list.now }
-    requires few { length list.now ≤ 65536 }
+    requires few { length list.now ≤ standard.candidates }
     requires few_symbols { symbols ≤ 1000 }
     requires decisions { IsReduced symbols list.now reduced.now.decisions }
     requires witnesses { AreWitnesses symbols [] (those is_kept list.now reduced.now.decisions) reduced.now.witnesses }

@@ -22,7 +22,8 @@ fn columns_of(alloc: Global, dfa: &Dfa) -> Result<Vec<u32>, Refusal>
 
 /// The states after each state's columns, row after row.
 fn rows_of(alloc: Global, dfa: &Dfa) -> Result<Vec<u32>, Refusal>
-    ensures ok { IfOk result (λ list. AreValues (state_count dfa.now * dfa.now.width) (λ place. step_column dfa.now (place / dfa.now.width) (place % dfa.now.width)) list.items) }
+    ensures ok { IfOk result (λ list. AreValues (state_count dfa.now * dfa.now.width)
+        (λ place. step_column dfa.now (place / dfa.now.width) (place % dfa.now.width)) list.items) }
     ensures err { IfErr result (λ e. e ≡ Refusal.Memory) }
 {
     let width = dfa.columns() as usize;

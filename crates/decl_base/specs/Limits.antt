@@ -1,4 +1,5 @@
 -- The greatest numbers that a run accepts.
+use Rattle.std.specs.Prelude.{ℕ}
 use Rattle.decl_base.specs.declared.limits.Limits.{Limits}
 
 abbrev pub standard : Limits
@@ -13,3 +14,7 @@ standard = record {
   candidates = 65536;
   states = 16384;
 }
+
+-- the greatest limit on states that may be set
+abbrev pub greatest_state_limit : ℕ
+greatest_state_limit = 65536

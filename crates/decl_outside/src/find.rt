@@ -11,7 +11,7 @@ use decl_base::Refusal;
 use memchr::memchr;
 
 /// The number of bytes before the first line feed, or of all, where so many are known to have none.
-fn line_end(bytes: &[u8], searched: usize) -> usize
+pub fn line_end(bytes: &[u8], searched: usize) -> usize
     requires { searched ≤ line_length bytes.now }
     ensures value { result ≡ line_length bytes.now }
     ensures within { result ≤ length bytes.now }

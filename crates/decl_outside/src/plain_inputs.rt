@@ -86,7 +86,8 @@ impl Inputs for PlainInputs {
         requires open { (state_of self.old).is_open ≡ true }
         ensures reads { Reads (state_of self.old) (state_of self.new) buffer.new result }
         ensures never_fails { IsOk result }
-        ensures count { IfOk result (λ n. n ≡ min (min (length (bytes_from self.old.files.items self.old.current self.old.place)) (length buffer.old)) self.old.per_read) }
+        ensures count { IfOk result (λ n. n ≡ min (min (length (bytes_from self.old.files.items self.old.current self.old.place))
+            (length buffer.old)) self.old.per_read) }
         ensures per_read { self.new.per_read ≡ self.old.per_read }
     {
         let rest = rest_of(&self.files, self.current, self.place);

@@ -1,5 +1,6 @@
 -- An automaton that a list of constraints joins, one after the other.
 use Rattle.std.specs.Prelude.{◌≡◌, ℕ, ◌<◌, ◌≤◌, List, Option, None, Some, length, take, ◌↔◌}
+use Rattle.decl_base.specs.Limits.{greatest_state_limit}
 use Rattle.dfa_core.specs.Automaton.{Automaton, Accepts, state_count}
 use Rattle.dfa_core.specs.Traces.{IsTrace}
 use Rattle.dfa_minimise.specs.Wide.{IsWide}
@@ -20,7 +21,7 @@ IsNarrowFrom s a list = (size : ℕ) → 0 < size → size ≤ length list → I
 pub record IsGrownBy (s : ℕ) (a : Automaton) (list : List Constraint) (grown : Automaton) : Type 0 where
   pub over : grown.symbols ≡ a.symbols
   pub same : (w : List ℕ) → IsTrace a.symbols w → Accepts grown w ↔ AcceptsAll a list w
-  pub few : state_count grown ≤ 65536
+  pub few : state_count grown ≤ greatest_state_limit
   pub narrow : IsNarrowFrom s a list
 
 -- or the first part that is

@@ -1,5 +1,6 @@
 -- Lists of constraints, by the traces that keep them, and as automata.
 use Rattle.std.specs.Prelude.{◌≡◌, ℕ, ◌<◌, ◌≤◌, List, length, take, ◌↔◌}
+use Rattle.decl_base.specs.Limits.{greatest_state_limit}
 use Rattle.dfa_core.specs.Automaton.{Automaton, Accepts, IsBreadthFirst, state_count}
 use Rattle.dfa_core.specs.Traces.{IsTrace}
 use Rattle.dfa_minimise.specs.Least.{IsLeast}
@@ -37,7 +38,7 @@ pub record IsFirstPrefix (n s : ℕ) (list : List Constraint) (size : ℕ) : Typ
 pub record IsAutomatonOf (n : ℕ) (list : List Constraint) (a : Automaton) : Type 0 where
   pub over : a.symbols ≡ n
   pub same : (w : List ℕ) → IsTrace n w → Accepts a w ↔ KeepsAll list w
-  pub few : state_count a ≤ 65536
+  pub few : state_count a ≤ greatest_state_limit
 
 -- the least automaton of a list
 pub record IsLeastOf (n : ℕ) (list : List Constraint) (a : Automaton) : Type 0 where

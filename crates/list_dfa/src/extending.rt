@@ -1,6 +1,7 @@
 ghost use Rattle.std.specs.Prelude.{◌≡◌, ◌≤◌, IfOk, IfErr, MatchOption};
+ghost use Rattle.decl_base.specs.Limits.{greatest_state_limit};
 ghost use Rattle.dfa_core.specs.Automaton.{Accepts, state_count};
-ghost use Rattle.dfa_core.specs.Languages.{HasNoMember, IsLeastMember};
+ghost use Rattle.dfa_core.specs.Languages.{IsLeastIfAny};
 ghost use Rattle.dfa_minimise.specs.Wide.{IsWide};
 ghost use Rattle.template_core.specs.Constraints.{IsWellMade};
 ghost use Rattle.list_dfa.specs.Extending.{AcceptsBroken, AcceptsKept, Extends, IsFitted, IsNarrowed};
@@ -20,8 +21,8 @@ pub fn first_broken(
     constraint: &Constraint,
 ) -> Result<Option<Trace>, Refusal>
     requires made { IsWellMade constraint.now.kind constraint.now.first constraint.now.second }
-    requires few { state_count dfa.now ≤ 65536 }
-    ensures ok { IfOk result (λ found. MatchOption found (HasNoMember dfa.now.symbols (AcceptsBroken dfa.now constraint.now)) (IsLeastMember dfa.now.symbols (AcceptsBroken dfa.now constraint.now))) }
+    requires few { state_count dfa.now ≤ greatest_state_limit }
+    ensures ok { IfOk result (IsLeastIfAny dfa.now.symbols (AcceptsBroken dfa.now constraint.now)) }
     ensures err { IfErr result (λ e. e ≡ Refusal.Memory) }
 {
     let want = Want::Beside {
@@ -41,8 +42,9 @@ pub fn extended(
     last: &mut u32,
 ) -> Result<Option<Dfa>, Refusal>
     requires made { IsWellMade constraint.now.kind constraint.now.first constraint.now.second }
-    requires few { state_count dfa.now ≤ 65536 }
-    ensures ok { IfOk result (λ extended. MatchOption extended (IsWide dfa.now.symbols (AcceptsKept dfa.now constraint.now) states) (Extends states dfa.now constraint.now)) }
+    requires few { state_count dfa.now ≤ greatest_state_limit }
+    ensures ok { IfOk result (λ extended. MatchOption extended (IsWide dfa.now.symbols (AcceptsKept dfa.now constraint.now) states)
+        (Extends states dfa.now constraint.now)) }
     ensures err { IfErr result (λ e. e ≡ Refusal.Memory) }
 {
     let both = narrowed(alloc, dfa, constraint)?;
@@ -52,7 +54,7 @@ pub fn extended(
 /// The automaton of the traces that an automaton accepts and that keep a constraint.
 pub fn narrowed(alloc: Global, dfa: &Dfa, constraint: &Constraint) -> Result<Dfa, Refusal>
     requires made { IsWellMade constraint.now.kind constraint.now.first constraint.now.second }
-    requires few { state_count dfa.now ≤ 65536 }
+    requires few { state_count dfa.now ≤ greatest_state_limit }
     ensures ok { IfOk result (IsNarrowed dfa.now constraint.now) }
     ensures err { IfErr result (λ e. e ≡ Refusal.Memory) }
 {

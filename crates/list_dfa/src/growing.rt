@@ -1,4 +1,5 @@
 ghost use Rattle.std.specs.Prelude.{◌≡◌, ◌≤◌, length, All, IfOk, IfErr};
+ghost use Rattle.decl_base.specs.Limits.{greatest_state_limit, standard};
 ghost use Rattle.dfa_core.specs.Automaton.{state_count};
 ghost use Rattle.template_core.specs.Constraints.{IsWellMadeFor};
 ghost use Rattle.list_dfa.specs.Growing.{grown_from, IsGrown};
@@ -37,9 +38,9 @@ pub fn grow(
     states: u64,
 ) -> Result<Grown, Refusal>
     requires made { All (IsWellMadeFor symbols) list.now }
-    requires few { state_count start.now ≤ 65536 }
-    requires short { length list.now ≤ 65536 }
-    requires few_states { states ≤ 65536 }
+    requires few { state_count start.now ≤ greatest_state_limit }
+    requires short { length list.now ≤ standard.candidates }
+    requires few_states { states ≤ greatest_state_limit }
     ensures ok { IfOk result (IsGrown states start.now list.now) }
     ensures err { IfErr result (λ e. e ≡ Refusal.Memory) }
 {

@@ -1,4 +1,5 @@
 ghost use Rattle.std.specs.Prelude.{◌≡◌, ◌≤◌, length, All, IfOk, IfErr};
+ghost use Rattle.decl_base.specs.Limits.{greatest_state_limit, standard};
 ghost use Rattle.template_core.specs.Constraints.{IsWellMadeFor};
 ghost use Rattle.list_dfa.specs.Lists.{IsListed};
 
@@ -27,9 +28,9 @@ pub fn automaton_of(
     states: u64,
 ) -> Result<Listed, Refusal>
     requires made { All (IsWellMadeFor symbols) list.now }
-    requires short { length list.now ≤ 65536 }
+    requires short { length list.now ≤ standard.candidates }
     requires some_states { 1 ≤ states }
-    requires few_states { states ≤ 65536 }
+    requires few_states { states ≤ greatest_state_limit }
     ensures ok { IfOk result (IsListed symbols states list.now) }
     ensures err { IfErr result (λ e. e ≡ Refusal.Memory) }
 {

@@ -1,4 +1,5 @@
 ghost use Rattle.std.specs.Prelude.{◌≡◌, ◌<◌, ◌≤◌, ◌+◌, ◌++◌, ◌∷◌, [], ℕ, List, All, IfOk, IfErr, OnErr, Some, length, map, slice_get, slice_set, slice_index_or, vec_len, vec_capacity};
+ghost use Rattle.decl_base.specs.Limits.{greatest_state_limit, standard};
 ghost use Rattle.list_dfa.specs.Lists.{IsNarrowList};
 ghost use Rattle.template_core.specs.Constraints.{IsWellMadeFor};
 ghost use Rattle.template_core.specs.Keeping.{KeepsAll, KeepsOne};
@@ -39,9 +40,9 @@ impl Monitor {
         states: u64,
     ) -> Result<Monitor, Refusal>
         requires made { All (IsWellMadeFor symbols) list.now }
-        requires short { length list.now ≤ 65536 }
+        requires short { length list.now ≤ standard.candidates }
         requires some_states { 1 ≤ states }
-        requires few_states { states ≤ 65536 }
+        requires few_states { states ≤ greatest_state_limit }
         ensures stands { IfOk result (λ monitor. StandsFor monitor []) }
         ensures monitor { IfOk result IsMonitor }
         ensures cases { IfOk result (λ monitor. case_count monitor ≡ 0) }
@@ -64,7 +65,7 @@ impl Monitor {
     ///
     /// `Memory`, and then the monitor stands for the same traces as before.
     pub fn begin(&mut self) -> Result<u32, Refusal>
-        requires few { case_count self.old < 1048575 }
+        requires few { case_count self.old < standard.traces }
         requires monitor { IsMonitor self.old }
         ensures ok { IfOk result (λ case. (case ≡ case_count self.old) × (case_count self.new ≡ case_count self.old + 1)) }
         ensures err { IfErr result (λ e. e ≡ Refusal.Memory) }

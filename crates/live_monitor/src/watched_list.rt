@@ -1,4 +1,5 @@
 ghost use Rattle.std.specs.Prelude.{◌≡◌, ◌↔◌, ◌<◌, ◌≤◌, ℕ, [], All, IsTrue, IfOk, IfErr, length, slice_index_or};
+ghost use Rattle.decl_base.specs.Limits.{greatest_state_limit, standard};
 ghost use Rattle.dfa_core.specs.Automaton.{state_count, step};
 ghost use Rattle.dfa_minimise.specs.Least.{IsLeast};
 ghost use Rattle.list_dfa.specs.Lists.{IsNarrowList};
@@ -32,9 +33,9 @@ impl WatchedList {
         states: u64,
     ) -> Result<WatchedList, Refusal>
         requires made { All (IsWellMadeFor symbols) list.now }
-        requires short { length list.now ≤ 65536 }
+        requires short { length list.now ≤ standard.candidates }
         requires some_states { 1 ≤ states }
-        requires few_states { states ≤ 65536 }
+        requires few_states { states ≤ greatest_state_limit }
         ensures ok { IfOk result (IsWatchedList symbols list.now) }
         ensures narrow { IfOk result (λ _. IsNarrowList symbols states list.now) }
         ensures err { IfErr result (RefusesMonitor symbols states list.now) }

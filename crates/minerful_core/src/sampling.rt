@@ -30,9 +30,11 @@ pub(crate) fn sample(alloc: Global, settings: &Settings) -> Result<Answer, Refus
     requires thresholds { AreFractions settings.now.thresholds }
     requires states { IsLimit settings.now.states }
     requires seed { settings.now.seed ≤ most_seed }
-    ensures text { IfOk result (λ a. IsOutcomeOf (IsLogOutcome Command.Sample settings.now) (string_log standard (sample_of settings.now.seed)) (answers a.status a.text.items)) }
+    ensures text { IfOk result (λ a. IsOutcomeOf (IsLogOutcome Command.Sample settings.now) (string_log standard (sample_of settings.now.seed))
+        (answers a.status a.text.items)) }
     ensures end { IfOk result (λ a. IsEnd a.status) }
-    ensures refusal { IfErr result (MayRefuse ⊥ (λ r. IsOutcomeOf (IsLogOutcome Command.Sample settings.now) (string_log standard (sample_of settings.now.seed)) (refuses r))) }
+    ensures refusal { IfErr result (MayRefuse ⊥ (λ r. IsOutcomeOf (IsLogOutcome Command.Sample settings.now) (string_log standard
+        (sample_of settings.now.seed)) (refuses r))) }
 {
     let text = generate(alloc, settings.seed, TRACES, LENGTH, LETTERS)?;
     let (names, kb) = feed_strings(alloc, &mut TextInput::of(text), &Limits::standard())?;

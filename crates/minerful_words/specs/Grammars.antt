@@ -2,6 +2,7 @@
 use Rattle.std.specs.Prelude.{◌≤◌, ℕ, List, Bool, true, false, ◌&&◌, Option, Some, None, codes, length, nat_le, if◌then◌else◌, option_and_then}
 use Rattle.std.specs.List.{list_all}
 use Rattle.std.specs.Str.{bytes_eq}
+use Rattle.decl_base.specs.Limits.{greatest_state_limit, standard}
 use Rattle.decl_base.specs.Threshold.{is_digit, number_of_digits}
 use Rattle.log_columns.specs.declared.OrderAs.{OrderAs}
 use Rattle.log_columns.specs.declared.OrderAs.TheVariants as order
@@ -37,19 +38,15 @@ number_between least most text = option_and_then (between least most) (whole_num
 abbrev pub IsBetween : ℕ → ℕ → ℕ → Type 0
 IsBetween least most n = (least ≤ n) × (n ≤ most)
 
--- the greatest limit on states that may be set
-abbrev pub most_states : ℕ
-most_states = 65536
-
 abbrev pub IsLimit : ℕ → Type 0
-IsLimit states = IsBetween 1 most_states states
+IsLimit states = IsBetween 1 greatest_state_limit states
 
 -- the greatest seed, number of traces, length of a trace and number of letters that a log is generated with
 abbrev pub most_seed : ℕ
 most_seed = 4294967295
 
 abbrev pub most_traces : ℕ
-most_traces = 1048575
+most_traces = standard.traces
 
 abbrev pub most_length : ℕ
 most_length = 1000

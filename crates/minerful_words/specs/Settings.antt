@@ -3,6 +3,7 @@ use Rattle.std.specs.Prelude.{◌≡◌, ◌≤◌, ◌*◌, ℕ, List, [], ◌�
 use Rattle.std.specs.Option.{ok_or}
 use Rattle.std.specs.Str.{bytes_eq}
 use Rattle.clap.specs.Words.{Row, Text, first_of}
+use Rattle.decl_base.specs.Limits.{greatest_state_limit, standard}
 use Rattle.decl_base.specs.Threshold.{threshold_of}
 use Rattle.decl_base.specs.declared.refusal.Refusal.{Refusal}
 use Rattle.decl_base.specs.declared.refusal.Refusal.TheVariants.{Usage, Memory}
@@ -13,7 +14,7 @@ use Rattle.log_columns.specs.declared.OrderAs.TheVariants as order
 use Rattle.template_core.specs.declared.kind.Kind.{Kind}
 use Rattle.template_core.specs.declared.repertoire.Repertoire.TheVariants as repertoire
 use Rattle.minerful_words.specs.Apps.{app_for, taken}
-use Rattle.minerful_words.specs.Grammars.{IsBetween, number_between, most_states, most_seed, most_traces, most_length, most_letters, most_listed, format_of, order_as_of, stage_of, out_of, repertoire_of, keep_of}
+use Rattle.minerful_words.specs.Grammars.{IsBetween, number_between, most_seed, most_traces, most_length, most_letters, most_listed, format_of, order_as_of, stage_of, out_of, repertoire_of, keep_of}
 use Rattle.minerful_words.specs.Templates.{kind_named, is_word_if_any}
 use Rattle.minerful_words.specs.Table.{OptionRow, options, row_named, takes, is_command}
 use Rattle.minerful_words.specs.declared.settings.Command.{Command}
@@ -46,7 +47,7 @@ default_thresholds = record {
 }
 
 abbrev pub default_states : ℕ
-default_states = 16384
+default_states = standard.states
 
 -- the name of standard input
 abbrev pub standard_input : Text
@@ -90,7 +91,7 @@ put field.OrderAs text s = option_map (λ v. record s { columns = record s.colum
 put field.Support text s = option_map (λ v. record s { thresholds = record s.thresholds { support = v } }) (read_threshold text)
 put field.Confidence text s = option_map (λ v. record s { thresholds = record s.thresholds { confidence = v } }) (read_threshold text)
 put field.Interest text s = option_map (λ v. record s { thresholds = record s.thresholds { interest = v } }) (read_threshold text)
-put field.States text s = option_map (λ v. record s { states = v }) (number_between 1 most_states text)
+put field.States text s = option_map (λ v. record s { states = v }) (number_between 1 greatest_state_limit text)
 put field.Stage text s = option_map (λ v. record s { stage = v }) (stage_of text)
 put field.Out text s = option_map (λ v. record s { out = v }) (out_of text)
 put field.Seed text s = option_map (λ v. record s { seed = v }) (number_between 0 most_seed text)
@@ -132,7 +133,7 @@ reads_standard_input_twice s = reads_two s.command && bytes_eq s.model standard_
 
 -- the greatest number of events that a log may be generated with
 abbrev pub most_events : ℕ
-most_events = 16777215
+most_events = standard.events
 
 -- the generated log has few enough events, however long its traces get
 abbrev pub is_log_small : Settings → Bool

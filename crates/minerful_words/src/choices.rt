@@ -10,6 +10,10 @@ ghost use Rattle.minerful_words.specs.Steps.{IsBounded};
 
 use crate::clap_command::text_of;
 use crate::grammars::{keep_named, number_between, order_as_named, repertoire_numbered};
+use crate::limits::{
+    MOST_EVENTS, MOST_LENGTH, MOST_LETTERS, MOST_LISTED, MOST_SEED, MOST_STATES, MOST_TRACES,
+    STATES,
+};
 use crate::settings::{Command, Format, Out, Settings, Stage};
 use crate::table::{CommandOption, Field};
 use clap::ArgMatches;
@@ -29,25 +33,6 @@ const CONFIDENCE: Threshold = Threshold {
 const INTEREST: Threshold = Threshold {
     millionths: 125_000,
 };
-
-const STATES: u64 = 16_384;
-
-/// The greatest limit on states that may be set.
-const MOST_STATES: u64 = 65_536;
-
-const MOST_SEED: u64 = 4_294_967_295;
-
-const MOST_TRACES: u64 = 1_048_575;
-
-const MOST_LENGTH: u64 = 1_000;
-
-const MOST_LETTERS: u64 = 26;
-
-/// The greatest number of traces that an analysis lists.
-const MOST_LISTED: u64 = 20;
-
-/// The greatest number of events that a log may be generated with.
-const MOST_EVENTS: u64 = 16_777_215;
 
 /// The name of standard input.
 const STANDARD_INPUT: &str = "-";

@@ -4,6 +4,7 @@
 mod choices;
 mod clap_command;
 mod grammars;
+mod limits;
 mod settings;
 mod table;
 mod templates;

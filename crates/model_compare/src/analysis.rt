@@ -1,4 +1,5 @@
 ghost use Rattle.std.specs.Prelude.{◌≤◌, length, All, IfOk, IfErr};
+ghost use Rattle.decl_base.specs.Limits.{greatest_state_limit, standard};
 ghost use Rattle.template_core.specs.Constraints.{IsWellMadeFor};
 ghost use Rattle.model_compare.specs.Analysis.{IsAnalysis, RefusesAnalysis};
 
@@ -24,10 +25,10 @@ pub fn analyse(
     first: u32,
 ) -> Result<Analysed, Refusal>
     requires made { All (IsWellMadeFor symbols) list.now }
-    requires short { length list.now ≤ 65536 }
+    requires short { length list.now ≤ standard.candidates }
     requires some_symbols { 1 ≤ symbols }
     requires some_states { 1 ≤ states }
-    requires few_states { states ≤ 65536 }
+    requires few_states { states ≤ greatest_state_limit }
     ensures ok { IfOk result (IsAnalysis symbols states first list.now) }
     ensures err { IfErr result (RefusesAnalysis symbols states list.now) }
 {

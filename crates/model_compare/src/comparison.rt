@@ -1,4 +1,5 @@
 ghost use Rattle.std.specs.Prelude.{◌≡◌, ◌≤◌, length, All, IfOk, IfErr};
+ghost use Rattle.decl_base.specs.Limits.{greatest_state_limit, standard};
 ghost use Rattle.template_core.specs.Constraints.{IsWellMadeFor};
 ghost use Rattle.model_compare.specs.Comparison.{IsCompared, RefusesComparing, relation_of};
 
@@ -20,10 +21,10 @@ pub fn compare(
 ) -> Result<Compared, Refusal>
     requires first_made { All (IsWellMadeFor symbols) first.now }
     requires second_made { All (IsWellMadeFor symbols) second.now }
-    requires first_short { length first.now ≤ 65536 }
-    requires second_short { length second.now ≤ 65536 }
+    requires first_short { length first.now ≤ standard.candidates }
+    requires second_short { length second.now ≤ standard.candidates }
     requires some_states { 1 ≤ states }
-    requires few_states { states ≤ 65536 }
+    requires few_states { states ≤ greatest_state_limit }
     ensures ok { IfOk result (IsCompared symbols states first.now second.now) }
     ensures err { IfErr result (RefusesComparing symbols states first.now second.now) }
 {

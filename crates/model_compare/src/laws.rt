@@ -4,5 +4,6 @@ ghost use Rattle.model_compare.specs.Comparison.{Comparison, IsComparison, relat
 
 /// Which of the two traces there are tells the relation.
 pub fn relation_is_told_by_the_traces()
-    ensures { (n : ℕ) (first second : List ConstraintOf) (c : Comparison) → IsComparison n first second c → c.relation ≡ relation_of c.only_first c.only_second }
+    ensures { (n : ℕ) (first second : List ConstraintOf) (c : Comparison) → IsComparison n first second c
+        → c.relation ≡ relation_of c.only_first c.only_second }
 {}

@@ -1,4 +1,5 @@
 ghost use Rattle.std.specs.Prelude.{◌≤◌, length, All, IfOk, IfErr};
+ghost use Rattle.decl_base.specs.Limits.{greatest_state_limit, standard};
 ghost use Rattle.template_core.specs.Constraints.{IsWellMadeFor};
 ghost use Rattle.model_compare.specs.Narrow.{IsNarrowAutomaton, RefusesList};
 
@@ -18,9 +19,9 @@ pub(crate) fn narrow_automaton(
     phase: u8,
 ) -> Result<Dfa, Refusal>
     requires made { All (IsWellMadeFor symbols) list.now }
-    requires short { length list.now ≤ 65536 }
+    requires short { length list.now ≤ standard.candidates }
     requires some_states { 1 ≤ states }
-    requires few_states { states ≤ 65536 }
+    requires few_states { states ≤ greatest_state_limit }
     ensures ok { IfOk result (IsNarrowAutomaton symbols states list.now) }
     ensures err { IfErr result (RefusesList symbols states phase list.now) }
 {

@@ -1,4 +1,5 @@
 ghost use Rattle.std.specs.Prelude.{◌≡◌, ◌<◌, ◌≤◌, length, All, IfOk, IfErr};
+ghost use Rattle.decl_base.specs.Limits.{greatest_state_limit, standard};
 ghost use Rattle.dfa_core.specs.Automaton.{Accepts, state_count};
 ghost use Rattle.dfa_core.specs.Languages.{IsLeastIfAny};
 ghost use Rattle.template_core.specs.Constraints.{IsWellMade, IsWellMadeFor};
@@ -24,9 +25,9 @@ pub(crate) fn redundant_numbers(
     states: u64,
 ) -> Result<Vec<u32>, Refusal>
     requires made { All (IsWellMadeFor symbols) list.now }
-    requires short { length list.now ≤ 65536 }
+    requires short { length list.now ≤ standard.candidates }
     requires some_states { 1 ≤ states }
-    requires few_states { states ≤ 65536 }
+    requires few_states { states ≤ greatest_state_limit }
     ensures ok { IfOk result (λ numbers. AreRedundant symbols states list.now numbers.items) }
     ensures err { IfErr result (RefusesOthers symbols states list.now) }
 {
@@ -48,10 +49,10 @@ fn is_implied(
     states: u64,
 ) -> Result<bool, Refusal>
     requires made { All (IsWellMadeFor symbols) list.now }
-    requires short { length list.now ≤ 65536 }
+    requires short { length list.now ≤ standard.candidates }
     requires place { place < length list.now }
     requires some_states { 1 ≤ states }
-    requires few_states { states ≤ 65536 }
+    requires few_states { states ≤ greatest_state_limit }
     ensures ok { IfOk result (IsTold symbols states list.now place) }
     ensures err { IfErr result (RefusesList symbols states 7 (others_of place list.now)) }
 {
@@ -75,7 +76,7 @@ fn others(alloc: Global, list: &[Constraint], place: usize) -> Result<Vec<Constr
 /// The least trace that an automaton accepts and that breaks a constraint.
 fn first_broken(alloc: Global, dfa: &Dfa, constraint: &Constraint) -> Result<Option<Trace>, Refusal>
     requires made { IsWellMade constraint.now.kind constraint.now.first constraint.now.second }
-    requires few { state_count dfa.now ≤ 65536 }
+    requires few { state_count dfa.now ≤ greatest_state_limit }
     ensures ok { IfOk result (IsLeastIfAny dfa.now.symbols (λ w. Accepts dfa.now w × (KeepsOne constraint.now w → ⊥))) }
     ensures err { IfErr result (λ e. e ≡ Refusal.Memory) }
 {

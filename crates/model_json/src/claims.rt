@@ -87,7 +87,8 @@ fn version_in(version: &Value) -> Option<Repertoire>
 
 /// The names of the tasks of a report: no more than the limit, none of them twice, and ascending.
 fn names_of(alloc: Global, report: &Value) -> Result<Option<Alphabet>, Refusal>
-    ensures names { IfOk result (λ names. option_map (λ a. a.names) names ≡ option_and_then names_of (option_and_then texts_in (get (codes "tasks") (view report.now)))) }
+    ensures names { IfOk result (λ names. option_map (λ a. a.names) names
+        ≡ option_and_then names_of (option_and_then texts_in (get (codes "tasks") (view report.now)))) }
     ensures limit { IfOk result (λ names. IfSome names (λ names. (names.limit ≡ standard.activities) × (length names.names ≤ standard.activities))) }
     ensures cause { IfErr result (λ e. e ≡ Refusal.Memory) }
 {

@@ -17,7 +17,8 @@ pub(crate) fn links_for(
     certificate: &Value,
     claim: &Claim,
 ) -> Result<Option<Vec<Link>>, AllocError>
-    ensures { IfOk result (λ links. MatchOption links (HasNoLinks (view certificate.now) claim.now) (λ links. AreLinks (view certificate.now) claim.now links.items)) }
+    ensures { IfOk result (λ links. MatchOption links (HasNoLinks (view certificate.now) claim.now)
+        (λ links. AreLinks (view certificate.now) claim.now links.items)) }
 {
     let Some(values) = values_under("chain", certificate) else {
         return Ok(None);

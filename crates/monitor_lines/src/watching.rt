@@ -1,5 +1,5 @@
 ghost use Rattle.std.specs.Prelude.{◌≡◌, ◌≤◌, [], length, All, true, IfOk, IfErr, IfSome, OnOk};
-ghost use Rattle.decl_base.specs.Limits.{standard};
+ghost use Rattle.decl_base.specs.Limits.{greatest_state_limit, standard};
 ghost use Rattle.decl_outside.specs.Inputs.{KeepsInput};
 ghost use Rattle.decl_outside.specs.Sink.{WritesAll};
 ghost use Rattle.list_dfa.specs.Lists.{IsNarrowList};
@@ -32,7 +32,7 @@ pub fn monitor_of(
     requires names { length names.now.names ≤ standard.activities }
     requires made { All (IsWellMadeFor (symbol_count names.now.names)) list.now }
     requires some_states { 1 ≤ states }
-    requires few_states { states ≤ 65536 }
+    requires few_states { states ≤ greatest_state_limit }
     ensures stands { IfOk result (λ monitor. StandsFor monitor []) }
     ensures symbols { IfOk result (λ monitor. symbols_of monitor ≡ symbol_count names.now.names) }
     ensures constraints { IfOk result (λ monitor. constraints_of monitor ≡ list.now) }

@@ -1,6 +1,7 @@
 -- What each step of the reduction is given and what it makes of the decisions: internal to the crate.
 use Rattle.std.specs.List.{All as Every, HoldsAt}
 use Rattle.std.specs.Prelude.{◌≡◌, ℕ, suc, ◌+◌, ◌<◌, ◌≤◌, List, [], ◌∷◌, ◌++◌, Bool, Option, None, Some, length, map, take, drop, get_or, slice_get, ⊤}
+use Rattle.decl_base.specs.Limits.{greatest_state_limit}
 use Rattle.decl_base.specs.declared.refusal.Refusal.{Refusal}
 use Rattle.decl_base.specs.declared.refusal.Refusal.TheVariants.{States, Memory}
 use Rattle.dfa_core.specs.Automaton.{Automaton, state_count}
@@ -172,7 +173,7 @@ IsStartOf n s list (Some prefix) = IsStart n s list prefix
 
 abbrev pub IsSmall : Option Prefix → Type 0
 IsSmall None = ⊤
-IsSmall (Some prefix) = state_count prefix.dfa ≤ 65536
+IsSmall (Some prefix) = state_count prefix.dfa ≤ greatest_state_limit
 
 abbrev pub length_of : Option Prefix → ℕ
 length_of None = 0

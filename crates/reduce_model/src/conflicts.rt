@@ -1,4 +1,5 @@
 ghost use Rattle.std.specs.Prelude.{◌≤◌, length, All, IfOk, IfErr};
+ghost use Rattle.decl_base.specs.Limits.{greatest_state_limit, standard};
 ghost use Rattle.template_core.specs.Constraints.{IsWellMadeFor};
 ghost use Rattle.reduce_model.specs.Sifting.{IsSift, RefusesSift};
 
@@ -18,9 +19,9 @@ pub fn sift(
     states: u64,
 ) -> Result<Sifted, Refusal>
     requires made { All (IsWellMadeFor symbols) list.now }
-    requires few { length list.now ≤ 65536 }
+    requires few { length list.now ≤ standard.candidates }
     requires some_states { 1 ≤ states }
-    requires few_states { states ≤ 65536 }
+    requires few_states { states ≤ greatest_state_limit }
     ensures ok { IfOk result (IsSift symbols states list.now) }
     ensures err { IfErr result (RefusesSift symbols states list.now) }
 {

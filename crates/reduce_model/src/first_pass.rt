@@ -1,4 +1,5 @@
 ghost use Rattle.std.specs.Prelude.{◌≡◌, ◌≤◌, length, map, All, IfOk, IfErr};
+ghost use Rattle.decl_base.specs.Limits.{greatest_state_limit, standard};
 ghost use Rattle.template_core.specs.Constraints.{IsWellMadeFor};
 ghost use Rattle.reduce_model.specs.Deciding.{is_left};
 ghost use Rattle.reduce_model.specs.Passes.{before_first_pass, AreKeptPrefixes, IsFirstPassed, RefusesFirstPass};
@@ -24,9 +25,9 @@ pub(crate) fn pass_first(
 ) -> Result<Vec<Prefix>, Refusal>
     requires made { All (IsWellMadeFor symbols) list.now }
     requires as_many { length decisions.old ≡ length list.now }
-    requires few { length list.now ≤ 65536 }
+    requires few { length list.now ≤ standard.candidates }
     requires some_states { 1 ≤ states }
-    requires few_states { states ≤ 65536 }
+    requires few_states { states ≤ greatest_state_limit }
     requires pruned { map before_first_pass decisions.old ≡ decisions.old }
     ensures ok { IfOk result (λ prefixes. IsFirstPassed symbols states list.now decisions.old decisions.new) }
     ensures kept { IfOk result (λ prefixes. AreKeptPrefixes symbols states list.now (map is_left decisions.new) prefixes.items) }

@@ -1,4 +1,5 @@
 ghost use Rattle.std.specs.Prelude.{◌≡◌, ◌≤◌, length, map, All, IfOk, IfErr};
+ghost use Rattle.decl_base.specs.Limits.{greatest_state_limit, standard};
 ghost use Rattle.template_core.specs.Constraints.{IsWellMadeFor};
 ghost use Rattle.reduce_model.specs.Passes.{before_first_pass, IsFirstPassedOf};
 
@@ -32,9 +33,9 @@ pub(crate) fn pass_first_within(
 ) -> Result<FirstPassed, Refusal>
     requires made { All (IsWellMadeFor symbols) list.now }
     requires as_many { length decisions.now ≡ length list.now }
-    requires few { length list.now ≤ 65536 }
+    requires few { length list.now ≤ standard.candidates }
     requires some_states { 1 ≤ states }
-    requires few_states { states ≤ 65536 }
+    requires few_states { states ≤ greatest_state_limit }
     requires pruned { map before_first_pass decisions.now ≡ decisions.now }
     ensures ok { IfOk result (IsFirstPassedOf symbols states list.now decisions.now) }
     ensures err { IfErr result (λ e. e ≡ Refusal.Memory) }

@@ -1,4 +1,5 @@
 ghost use Rattle.std.specs.Prelude.{◌≡◌, ◌+◌, ◌≤◌, length, All, IfOk, IfErr};
+ghost use Rattle.decl_base.specs.Limits.{greatest_state_limit, standard};
 ghost use Rattle.dfa_core.specs.Automaton.{state_count};
 ghost use Rattle.template_core.specs.Constraints.{IsWellMadeFor};
 ghost use Rattle.reduce_model.specs.Passes.{IsSoughtFrom};
@@ -31,9 +32,9 @@ pub(crate) fn seek(
 ) -> Result<Sought, Refusal>
     requires made { All (IsWellMadeFor symbols) list.now }
     requires candidate { IsWellMadeFor symbols constraint.now }
-    requires few { state_count start.now.dfa ≤ 65536 }
-    requires short { start.now.length + length list.now ≤ 65536 }
-    requires few_states { states ≤ 65536 }
+    requires few { state_count start.now.dfa ≤ greatest_state_limit }
+    requires short { start.now.length + length list.now ≤ standard.candidates }
+    requires few_states { states ≤ greatest_state_limit }
     ensures ok { IfOk result (IsSoughtFrom states start.now.dfa start.now.length list.now constraint.now) }
     ensures err { IfErr result (λ e. e ≡ Refusal.Memory) }
 {

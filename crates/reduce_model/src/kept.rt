@@ -1,4 +1,5 @@
 ghost use Rattle.std.specs.Prelude.{◌≡◌, ◌+◌, ◌<◌, ◌≤◌, ◌^◌, IfOk, IfErr};
+ghost use Rattle.decl_base.specs.Limits.{greatest_state_limit};
 ghost use Rattle.dfa_core.specs.Automaton.{state_count};
 ghost use Rattle.template_core.specs.Constraints.{IsWellMade};
 ghost use Rattle.reduce_model.specs.Joining.{IsJoined, IsTried};
@@ -53,7 +54,7 @@ impl KeptList {
         last: &mut u32,
     ) -> Result<Joined, Refusal>
         requires made { IsWellMade candidate.now.kind candidate.now.first candidate.now.second }
-        requires few { state_count self.now.dfa ≤ 65536 }
+        requires few { state_count self.now.dfa ≤ greatest_state_limit }
         requires room { self.now.length + 1 < 2 ^ 32 }
         ensures ok { IfOk result (IsJoined states self.now candidate.now) }
         ensures err { IfErr result (λ e. e ≡ Refusal.Memory) }
@@ -85,7 +86,7 @@ pub(crate) fn try_candidate(
     last: &mut u32,
 ) -> Result<Tried, Refusal>
     requires made { IsWellMade candidate.now.kind candidate.now.first candidate.now.second }
-    requires few { state_count dfa.now ≤ 65536 }
+    requires few { state_count dfa.now ≤ greatest_state_limit }
     ensures ok { IfOk result (IsTried states dfa.now candidate.now) }
     ensures err { IfErr result (λ e. e ≡ Refusal.Memory) }
 {

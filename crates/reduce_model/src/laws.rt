@@ -12,13 +12,15 @@ ghost use Rattle.reduce_model.specs.declared.decision.Decision.TheVariants.{Kept
 
 /// The reduced model keeps exactly the traces of the conflict-free model.
 pub fn model_keeps_the_traces()
-    ensures { (n : ℕ) (list : List ConstraintOf) (decisions : List DecisionOf) → All (IsWellMadeFor n) list → IsReduced n list decisions → (w : List ℕ) → IsTrace n w
+    ensures { (n : ℕ) (list : List ConstraintOf) (decisions : List DecisionOf) → All (IsWellMadeFor n) list → IsReduced n list decisions
+        → (w : List ℕ) → IsTrace n w
         → KeepsAll (those is_kept list decisions) w ↔ KeepsAll (those is_consistent list decisions) w }
 {}
 
 /// Some trace keeps it.
 pub fn model_is_keepable()
-    ensures { (n s : ℕ) (list : List ConstraintOf) (reduction : Reduction) → IsReduction n s list reduction → IsKeepable n (those is_kept list reduction.decisions) }
+    ensures { (n s : ℕ) (list : List ConstraintOf) (reduction : Reduction) → IsReduction n s list reduction
+        → IsKeepable n (those is_kept list reduction.decisions) }
 {}
 
 /// Beside each constraint of the model stands a trace that keeps all the others and breaks it.
@@ -45,6 +47,8 @@ pub fn decisions_are_determined()
 /// A list of candidates has one reduction at most, and none where it is refused for its states. Two such refusals are the same.
 pub fn reduction_is_determined()
     ensures one { (n s : ℕ) (list : List ConstraintOf) (a b : Reduction) → IsReduction n s list a → IsReduction n s list b → a ≡ b }
-    ensures not_both { (n s : ℕ) (list : List ConstraintOf) (a : Reduction) (phase built : ℕ) → IsReduction n s list a → RefusesReduction n s list (States phase built) → ⊥ }
-    ensures one_refusal { (n s : ℕ) (list : List ConstraintOf) (p q a b : ℕ) → RefusesReduction n s list (States p a) → RefusesReduction n s list (States q b) → (p ≡ q) × (a ≡ b) }
+    ensures not_both { (n s : ℕ) (list : List ConstraintOf) (a : Reduction) (phase built : ℕ) → IsReduction n s list a
+        → RefusesReduction n s list (States phase built) → ⊥ }
+    ensures one_refusal { (n s : ℕ) (list : List ConstraintOf) (p q a b : ℕ) → RefusesReduction n s list (States p a)
+        → RefusesReduction n s list (States q b) → (p ≡ q) × (a ≡ b) }
 {}

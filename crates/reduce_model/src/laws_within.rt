@@ -13,13 +13,15 @@ ghost use Rattle.reduce_model.specs.declared.decision.Decision.TheVariants.{Kept
 
 /// The reduced model keeps exactly the traces of the conflict-free model within the limit.
 pub fn model_within_keeps_the_traces()
-    ensures { (n s : ℕ) (list : List ConstraintOf) (decisions : List DecisionOf) → All (IsWellMadeFor n) list → IsReducedWithin n s list decisions → (w : List ℕ) → IsTrace n w
+    ensures { (n s : ℕ) (list : List ConstraintOf) (decisions : List DecisionOf) → All (IsWellMadeFor n) list → IsReducedWithin n s list decisions
+        → (w : List ℕ) → IsTrace n w
         → KeepsAll (those is_kept list decisions) w ↔ KeepsAll (those is_consistent list decisions) w }
 {}
 
 /// Some trace keeps it.
 pub fn model_within_is_keepable()
-    ensures { (n s : ℕ) (list : List ConstraintOf) (reduction : Reduction) → IsReductionWithin n s list reduction → IsKeepable n (those is_kept list reduction.decisions) }
+    ensures { (n s : ℕ) (list : List ConstraintOf) (reduction : Reduction) → IsReductionWithin n s list reduction
+        → IsKeepable n (those is_kept list reduction.decisions) }
 {}
 
 /// Beside each constraint of the model that isn't untested stands a trace that keeps all the others of the model and breaks it.
@@ -49,5 +51,6 @@ pub fn reduction_within_is_determined()
 /// Where the sift or the reduction isn't refused for its states, that within the limit is the same.
 pub fn within_agrees()
     ensures sift { (n s : ℕ) (list : List ConstraintOf) (sifting : Sifting) → IsSift n s list sifting → IsSiftWithin n s list sifting }
-    ensures reduction { (n s : ℕ) (list : List ConstraintOf) (reduction : Reduction) → All (IsWellMadeFor n) list → IsReduction n s list reduction → IsReductionWithin n s list reduction }
+    ensures reduction { (n s : ℕ) (list : List ConstraintOf) (reduction : Reduction) → All (IsWellMadeFor n) list → IsReduction n s list reduction
+        → IsReductionWithin n s list reduction }
 {}

@@ -1,4 +1,5 @@
 ghost use Rattle.std.specs.Prelude.{◌≤◌, [], length, All, IfOk, IfErr};
+ghost use Rattle.decl_base.specs.Limits.{greatest_state_limit, standard};
 ghost use Rattle.template_core.specs.Constraints.{IsWellMadeFor};
 ghost use Rattle.reduce_model.specs.Passes.{IsImpliedDropped};
 ghost use Rattle.reduce_model.specs.Reduction.{IsReduction, RefusesReduction};
@@ -24,9 +25,9 @@ pub fn reduce(
     states: u64,
 ) -> Result<Reduced, Refusal>
     requires made { All (IsWellMadeFor symbols) list.now }
-    requires few { length list.now ≤ 65536 }
+    requires few { length list.now ≤ standard.candidates }
     requires some_states { 1 ≤ states }
-    requires few_states { states ≤ 65536 }
+    requires few_states { states ≤ greatest_state_limit }
     ensures ok { IfOk result (IsReduction symbols states list.now) }
     ensures err { IfErr result (RefusesReduction symbols states list.now) }
 {
@@ -51,9 +52,9 @@ fn drop_implied(
     decisions: &mut [Decision],
 ) -> Result<Vec<Trace>, Refusal>
     requires made { All (IsWellMadeFor symbols) list.now }
-    requires few { length list.now ≤ 65536 }
+    requires few { length list.now ≤ standard.candidates }
     requires some_states { 1 ≤ states }
-    requires few_states { states ≤ 65536 }
+    requires few_states { states ≤ greatest_state_limit }
     requires sifted { IsSifted symbols [] list.now decisions.old }
     requires narrow { IsNarrow symbols states list.now }
     ensures ok { IfOk result (λ witnesses. IsImpliedDropped symbols states list.now decisions.old decisions.new witnesses.items) }

@@ -1,4 +1,5 @@
 ghost use Rattle.std.specs.Prelude.{◌≡◌, ◌≤◌, ◌<◌, ◌++◌, [], length, map, take, drop, All, IfOk, IfErr};
+ghost use Rattle.decl_base.specs.Limits.{greatest_state_limit, standard};
 ghost use Rattle.template_core.specs.Constraints.{IsWellMadeFor};
 ghost use Rattle.reduce_model.specs.Deciding.{after, is_kept, is_left, marked, those};
 ghost use Rattle.reduce_model.specs.Passes.{before_second_pass, AreFirstWitnesses, AreKeptPrefixes, IsSecondPassed, RefusesSecondPass};
@@ -23,14 +24,15 @@ pub(crate) fn pass_second(
 ) -> Result<Vec<Trace>, Refusal>
     requires made { All (IsWellMadeFor symbols) list.now }
     requires as_many { length decisions.old ≡ length list.now }
-    requires few { length list.now ≤ 65536 }
+    requires few { length list.now ≤ standard.candidates }
     requires some_states { 1 ≤ states }
-    requires few_states { states ≤ 65536 }
+    requires few_states { states ≤ greatest_state_limit }
     requires kept { AreKeptPrefixes symbols states list.now (map is_left decisions.old) prefixes.now }
     requires passed { map before_second_pass decisions.old ≡ decisions.old }
     ensures ok { IfOk result (λ found. IsSecondPassed symbols states list.now decisions.old decisions.new) }
     ensures found { IfOk result (λ found. AreFirstWitnesses symbols states [] (those is_kept list.now decisions.new) found.items) }
-    ensures first { IfOk result (λ found. take (length found.items) (those is_left list.now decisions.new) ≡ take (length found.items) (those is_kept list.now decisions.new)) }
+    ensures first { IfOk result (λ found. take (length found.items) (those is_left list.now decisions.new)
+        ≡ take (length found.items) (those is_kept list.now decisions.new)) }
     ensures err { IfErr result (RefusesSecondPass symbols states list.now decisions.old) }
 {
     let mut found = Vec::new(alloc);
@@ -65,7 +67,8 @@ pub(crate) fn others_from(
     requires as_many { length decisions.now ≡ length list.now }
     requires order { from ≤ place }
     requires there { place < length list.now }
-    ensures { IfOk result (λ others. others.items ≡ marked (drop from (take place (map is_kept decisions.now))) (drop from (take place list.now)) ++ after is_kept place list.now decisions.now) }
+    ensures { IfOk result (λ others. others.items ≡ marked (drop from (take place (map is_kept decisions.now))) (drop from
+        (take place list.now)) ++ after is_kept place list.now decisions.now) }
 {
     let mut others = Vec::new(alloc);
     push_kept(&list[from..place], &decisions[from..place], &mut others)?;

@@ -1,4 +1,5 @@
 ghost use Rattle.std.specs.Prelude.{◌≡◌, ◌≤◌, length, map, All, IfOk, IfErr};
+ghost use Rattle.decl_base.specs.Limits.{greatest_state_limit, standard};
 ghost use Rattle.template_core.specs.Constraints.{IsWellMadeFor};
 ghost use Rattle.reduce_model.specs.Deciding.{is_left};
 ghost use Rattle.reduce_model.specs.Passes.{before_second_pass, AreClosedPast, AreKeptPrefixes, IsSecondPassedTo};
@@ -24,8 +25,8 @@ pub(crate) fn pass_second_within(
 ) -> Result<(), Refusal>
     requires made { All (IsWellMadeFor symbols) list.now }
     requires as_many { length decisions.old ≡ length list.now }
-    requires few { length list.now ≤ 65536 }
-    requires few_states { states ≤ 65536 }
+    requires few { length list.now ≤ standard.candidates }
+    requires few_states { states ≤ greatest_state_limit }
     requires kept { AreKeptPrefixes symbols states list.now (map is_left decisions.old) prefixes.now }
     requires closed { AreClosedPast symbols states list.now (map is_left decisions.old) wide }
     requires passed { map before_second_pass decisions.old ≡ decisions.old }

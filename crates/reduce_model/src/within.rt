@@ -1,4 +1,5 @@
 ghost use Rattle.std.specs.Prelude.{◌≡◌, ◌≤◌, [], length, map, All, IfOk, IfErr};
+ghost use Rattle.decl_base.specs.Limits.{greatest_state_limit, standard};
 ghost use Rattle.template_core.specs.Constraints.{IsWellMadeFor};
 ghost use Rattle.reduce_model.specs.Deciding.{is_left};
 ghost use Rattle.reduce_model.specs.Passes.{before_second_pass, AreClosedPast, AreKeptPrefixes, IsDroppedWithin, IsTestedTo};
@@ -25,9 +26,9 @@ pub fn sift_within(
     states: u64,
 ) -> Result<Sifted, Refusal>
     requires made { All (IsWellMadeFor symbols) list.now }
-    requires few { length list.now ≤ 65536 }
+    requires few { length list.now ≤ standard.candidates }
     requires some_states { 1 ≤ states }
-    requires few_states { states ≤ 65536 }
+    requires few_states { states ≤ greatest_state_limit }
     ensures ok { IfOk result (IsSiftWithin symbols states list.now) }
     ensures err { IfErr result (λ e. e ≡ Refusal.Memory) }
 {
@@ -70,9 +71,9 @@ pub fn reduce_within(
     states: u64,
 ) -> Result<Reduced, Refusal>
     requires made { All (IsWellMadeFor symbols) list.now }
-    requires few { length list.now ≤ 65536 }
+    requires few { length list.now ≤ standard.candidates }
     requires some_states { 1 ≤ states }
-    requires few_states { states ≤ 65536 }
+    requires few_states { states ≤ greatest_state_limit }
     ensures ok { IfOk result (IsReductionWithin symbols states list.now) }
     ensures err { IfErr result (λ e. e ≡ Refusal.Memory) }
 {
@@ -100,9 +101,9 @@ fn drop_within(
     decisions: &mut [Decision],
 ) -> Result<Witnessed, Refusal>
     requires made { All (IsWellMadeFor symbols) list.now }
-    requires few { length list.now ≤ 65536 }
+    requires few { length list.now ≤ standard.candidates }
     requires some_states { 1 ≤ states }
-    requires few_states { states ≤ 65536 }
+    requires few_states { states ≤ greatest_state_limit }
     requires sifted { IsSiftedWithin symbols states [] list.now decisions.old }
     ensures ok { IfOk result (λ witnessed. IsDroppedWithin symbols states list.now decisions.old witnessed) }
     ensures err { IfErr result (λ e. e ≡ Refusal.Memory) }
@@ -132,9 +133,9 @@ fn test_within(
 ) -> Result<Witnessed, Refusal>
     requires made { All (IsWellMadeFor symbols) list.now }
     requires as_many { length decisions.old ≡ length list.now }
-    requires few { length list.now ≤ 65536 }
+    requires few { length list.now ≤ standard.candidates }
     requires some_states { 1 ≤ states }
-    requires few_states { states ≤ 65536 }
+    requires few_states { states ≤ greatest_state_limit }
     requires kept { AreKeptPrefixes symbols states list.now (map is_left decisions.old) prefixes.now }
     requires closed { AreClosedPast symbols states list.now (map is_left decisions.old) wide }
     requires passed { map before_second_pass decisions.old ≡ decisions.old }

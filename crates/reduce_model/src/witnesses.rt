@@ -1,4 +1,5 @@
 ghost use Rattle.std.specs.Prelude.{◌≡◌, ◌≤◌, [], length, take, All, IfOk, IfErr};
+ghost use Rattle.decl_base.specs.Limits.{greatest_state_limit, standard};
 ghost use Rattle.template_core.specs.Constraints.{IsWellMadeFor};
 ghost use Rattle.reduce_model.specs.Passes.{AreFirstWitnesses, IsIrredundant, IsStart, IsWitnessed, RefusesWitnesses};
 
@@ -20,8 +21,8 @@ pub(crate) fn witnesses_of(
     known: Vec<Trace>,
 ) -> Result<Vec<Trace>, Refusal>
     requires made { All (IsWellMadeFor symbols) model.now }
-    requires few { length model.now ≤ 65536 }
-    requires few_states { states ≤ 65536 }
+    requires few { length model.now ≤ standard.candidates }
+    requires few_states { states ≤ greatest_state_limit }
     requires irredundant { IsIrredundant symbols model.now }
     requires known { AreFirstWitnesses symbols states [] model.now known.items }
     requires start { IsStart symbols states (take start.now.length model.now) start.now }

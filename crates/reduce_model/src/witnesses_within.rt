@@ -1,4 +1,5 @@
 ghost use Rattle.std.specs.Prelude.{◌≡◌, ◌+◌, ◌<◌, ◌≤◌, ◌^◌, [], length, All, IfOk, IfErr};
+ghost use Rattle.decl_base.specs.Limits.{greatest_state_limit, standard};
 ghost use Rattle.template_core.specs.Constraints.{IsWellMade, IsWellMadeFor};
 ghost use Rattle.reduce_model.specs.Passes.{IsBreakable, IsFoundOf, IsNext, IsSmall, IsTestedWithin, IsWitnessedWithin, length_of};
 
@@ -30,9 +31,9 @@ pub(crate) fn witnesses_within(
 ) -> Result<Witnessed, Refusal>
     requires made { All (IsWellMadeFor symbols) list.now }
     requires as_many { length decisions.now ≡ length list.now }
-    requires few { length list.now ≤ 65536 }
+    requires few { length list.now ≤ standard.candidates }
     requires some_states { 1 ≤ states }
-    requires few_states { states ≤ 65536 }
+    requires few_states { states ≤ greatest_state_limit }
     requires tested { IsTestedWithin symbols states [] list.now decisions.now }
     ensures ok { IfOk result (IsWitnessedWithin symbols states list.now decisions.now) }
     ensures err { IfErr result (λ e. e ≡ Refusal.Memory) }
@@ -78,8 +79,8 @@ fn witness_of(
     requires made { All (IsWellMadeFor symbols) after.now }
     requires candidate { IsWellMadeFor symbols constraint.now }
     requires few { IsSmall before.now }
-    requires short { length_of before.now + length after.now ≤ 65536 }
-    requires few_states { states ≤ 65536 }
+    requires short { length_of before.now + length after.now ≤ standard.candidates }
+    requires few_states { states ≤ greatest_state_limit }
     requires breakable { IsBreakable before.now after.now constraint.now }
     ensures ok { IfOk result (IsFoundOf states before.now after.now constraint.now) }
     ensures err { IfErr result (λ e. e ≡ Refusal.Memory) }

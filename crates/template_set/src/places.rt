@@ -102,7 +102,8 @@ fn place_fulfilled(constraint: &Constraint, trace: &[u32], place: usize) -> bool
 /// Whether an event of a trace is fulfilled, by those before it and after it.
 fn event_fulfilled(constraint: &Constraint, before: &[u32], event: u32, after: &[u32]) -> bool
     requires { group_of constraint.now.kind ≢ Existence }
-    ensures { result ≡ is_fulfilled nat_eq constraint.now.kind constraint.now.first constraint.now.second (before.now ++ event ∷ after.now) (length before.now) }
+    ensures { result ≡ is_fulfilled nat_eq constraint.now.kind constraint.now.first constraint.now.second (before.now ++ event ∷ after.now)
+        (length before.now) }
 {
     let first = constraint.first;
     let second = constraint.second;
@@ -138,7 +139,8 @@ fn event_fulfilled(constraint: &Constraint, before: &[u32], event: u32, after: &
 
 /// At its first activity the second comes next, and at another event the first came directly before.
 fn chain_succession(constraint: &Constraint, before: &[u32], event: u32, after: &[u32]) -> bool
-    ensures { result ≡ at_first nat_eq constraint.now.first (has_next nat_eq constraint.now.second) (has_previous nat_eq constraint.now.first) before.now event after.now }
+    ensures { result ≡ at_first nat_eq constraint.now.first (has_next nat_eq constraint.now.second)
+        (has_previous nat_eq constraint.now.first) before.now event after.now }
 {
     if event == constraint.first {
         begins_with(constraint.second, after)
@@ -161,7 +163,8 @@ fn alternate_succession(constraint: &Constraint, before: &[u32], event: u32, aft
 
 /// At its first activity the second comes later, and at another event the first came earlier.
 fn succession(constraint: &Constraint, before: &[u32], event: u32, after: &[u32]) -> bool
-    ensures { result ≡ at_first nat_eq constraint.now.first (has_later nat_eq constraint.now.second) (has_earlier nat_eq constraint.now.first) before.now event after.now }
+    ensures { result ≡ at_first nat_eq constraint.now.first (has_later nat_eq constraint.now.second)
+        (has_earlier nat_eq constraint.now.first) before.now event after.now }
 {
     if event == constraint.first {
         occurs(constraint.second, after)

@@ -1,11 +1,10 @@
 -- Events and new cases, for what a monitor keeps.
-use Rattle.std.proofs.Common.{◌≡◌, ℕ, zero, suc, ◌+◌, ◌*◌, ◌<◌, ◌≤◌, ◌⊎◌, inl, inr, List, [], ◌∷◌, ◌++◌, All, Some, length, map, get_or, slice_get, option_map, take, drop, refl, sym, ap, subst, ◌∙◌, arith}
+use Rattle.std.proofs.Common.{◌≡◌, ℕ, ◌+◌, ◌*◌, ◌<◌, ◌≤◌, ◌⊎◌, inl, inr, List, [], ◌∷◌, ◌++◌, All, Some, length, map, get_or, slice_get, option_map, take, drop, refl, sym, ap, subst, ◌∙◌, arith}
 use Rattle.std.proofs.Math.ListN.{set}
-use Rattle.std.proofs.Math.Nat.{mul-le-mul_right, mul_comm}
+use Rattle.std.proofs.Math.Nat.{mul-le-mul_right}
 use Rattle.std.proofs.lemmas.Bool.{cases_eq, cases_lt}
 use Rattle.std.proofs.lemmas.List.{get_or-append-add, get_or-set_other, get_or-set_same, get_or_append_left, get_or_push, length-append, length-map, length-set, length_push, map-append, take_more, take_all, drop_all, append-nil}
 use Rattle.std.proofs.lemmas.List.Elements.{All-nil, All-push, All-set}
-use Rattle.std.proofs.lemmas.Nat.{mul-add-lt}
 use Rattle.std.proofs.lemmas.Option.{get_or_from_slice_get, slice_get-map, slice_get_within}
 use Rattle.dfa_core.specs.Automaton.{run, state_count, step, steps_of}
 use Rattle.dfa_core.specs.Traces.{IsTrace}
@@ -218,6 +217,27 @@ stepped-more watched symbol from place value old new one lt at is stepped = reco
     still : (k : ℕ) → ((k < from) ⊎ (from + (place + 1) ≤ k)) → ((k < from) ⊎ (from + place ≤ k))
     still k (inl lt) = inl lt
     still k (inr le) = inr (omega (arith, le))
+
+-- one that stays more
+pub stepped-still : (watched : List Watched) (symbol from place : ℕ) (old new : List ℕ) (one : Watched) → slice_get watched place ≡ Some one
+    → table_step one.table (get_or new (from + place) 0) (class one.constraint symbol) ≡ get_or new (from + place) 0
+    → AreStepped watched symbol from place old new → AreStepped watched symbol from (place + 1) old new
+stepped-still watched symbol from place old new one at stays stepped = record {
+  stepped = λ k other lk there. elim (cases_eq k place) [
+    | inl e ↦
+        let same : other ≡ one = some_one (sym there ∙ (ap (slice_get watched) e ∙ at)) in
+        rw (e, same) (sym stays ∙ ap (λ r. table_step one.table r (class one.constraint symbol)) (stepped.others (from + place) (inr (omega arith))))
+    | inr ne ↦ stepped.stepped k other (omega (arith, lk, ne)) there
+  ];
+  others = λ k outside. stepped.others k (before k outside);
+}
+  where
+    some_one : {x y : Watched} → Some x ≡ Some y → x ≡ y
+    some_one e = cc e
+
+    before : (k : ℕ) → ((k < from) ⊎ (from + (place + 1) ≤ k)) → ((k < from) ⊎ (from + place ≤ k))
+    before k (inl lt) = inl lt
+    before k (inr le) = inr (omega (arith, le))
 
 -- what is written back of a whole list
 pub written : (xs items : List ℕ) (n : ℕ) → n ≡ length items → length xs ≡ length items → take n (xs ++ drop (length xs) items) ≡ xs

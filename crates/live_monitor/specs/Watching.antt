@@ -5,6 +5,7 @@ use Rattle.dfa_core.specs.Traces.{IsTrace}
 use Rattle.list_dfa.specs.Lists.{IsLeastOf}
 use Rattle.template_core.specs.Keeping.{KeepsOne}
 use Rattle.template_core.specs.Tables.{IsTable, accepts_at, class, column, keeps_by, step, table_run}
+use Rattle.template_core.specs.declared.class.Class.TheVariants.{Other}
 use Rattle.template_core.specs.declared.constraint.Constraint.{Constraint}
 use Rattle.template_core.specs.declared.table.Table.{Table}
 use Rattle.live_monitor.specs.Standing.{IsStanding}
@@ -26,9 +27,14 @@ pub record IsWatchedList (n : ℕ) (list : List Constraint) (watched : WatchedLi
   pub as_many : length watched.standings.items ≡ state_count watched.dfa
   pub standings : (state : ℕ) → state < state_count watched.dfa → IsStanding n (AcceptsFrom watched.dfa state) [] (get_or watched.standings.items state Kept)
 
+-- where it is said to stay, an event of no activity of the constraint leads from each state back to it
+abbrev pub StaysIfSaid : Watched → Type 0
+StaysIfSaid watched = watched.stays ≡ true → (state : ℕ) → state < watched.table.states → step watched.table state Other ≡ state
+
 -- a table of the constraint, and the standing at each of its states
 pub record IsWatched (n : ℕ) (watched : Watched) : Type 0 where
   pub table : IsTable watched.table
+  pub stays : StaysIfSaid watched
   pub language : (t : List ℕ) → keeps_by watched.table watched.constraint t ≡ true ↔ KeepsOne watched.constraint t
   pub standings : (state : ℕ) → state < watched.table.states → IsStanding n (TableAcceptsFrom watched.table watched.constraint state) [] (get_or watched.standings state Kept)
 

@@ -7,7 +7,7 @@ ghost use Rattle.template_core.specs.Tables.{IsTable};
 ghost use Rattle.template_core.specs.declared.constraint.Constraint.{Constraint as ConstraintOf};
 ghost use Rattle.live_monitor.specs.Standing.{IsStanding, RefusesMonitor};
 ghost use Rattle.live_monitor.specs.Stands.{IsMonitor, StandsFor, case_count, constraints_of, symbols_of, trace_of, watched_constraints};
-ghost use Rattle.live_monitor.specs.Watching.{AreStepped, IsWatched};
+ghost use Rattle.live_monitor.specs.Watching.{AreStepped, IsWatched, StaysIfSaid};
 ghost use Rattle.live_monitor.specs.declared.watched.Watched.{Watched as WatchedOf};
 
 use crate::Standing;
@@ -15,7 +15,7 @@ use crate::watched::Watched;
 use crate::watched_list::WatchedList;
 use decl_base::Refusal;
 use std::alloc::Global;
-use template_core::{Constraint, class_of};
+use template_core::{Class, Constraint, class_of};
 
 /// Running cases beside a list of constraints. No trace is kept: of each case there is a state of the list's automaton, and one of each constraint's.
 #[derive(Drop)]
@@ -160,18 +160,20 @@ fn put_starts(table_states: &mut Vec<u8>, watched: &[Watched])
     }
 }
 
-/// An event, for the states of the constraints' automata from a place on.
+/// An event, for the states of the constraints' automata from a place on. Most constraints name other activities, and stay.
 fn step_each(table_states: &mut [u8], from: usize, watched: &[Watched], symbol: u32)
     requires room { from + length watched.now ≤ length table_states.old }
     requires tables { All (λ one. IsTable one.table) watched.now }
+    requires stay { All StaysIfSaid watched.now }
     requires states { (place : ℕ) (one : WatchedOf) → slice_get watched.now place ≡ Some one
         → slice_index_or table_states.old (from + place) 0 < one.table.states }
     ensures { AreStepped watched.now symbol from (length watched.now) table_states.old table_states.new }
 {
     for (place, one) in watched.iter().enumerate() {
-        let at = from + place;
-        table_states[at] = one
-            .table
-            .step(table_states[at], class_of(&one.constraint, symbol));
+        let class = class_of(&one.constraint, symbol);
+        if !(one.stays && matches!(class, Class::Other)) {
+            let at = from + place;
+            table_states[at] = one.table.step(table_states[at], class);
+        }
     }
 }

@@ -1,12 +1,13 @@
-ghost use Rattle.std.specs.Prelude.{◌≡◌, ◌<◌, ℕ, [], not, false, slice_index_or};
+ghost use Rattle.std.specs.Prelude.{◌≡◌, ◌↔◌, ◌<◌, ℕ, [], IsTrue, not, false, slice_index_or};
 ghost use Rattle.template_core.specs.Constraints.{IsWellMadeFor};
-ghost use Rattle.template_core.specs.Tables.{IsTable};
+ghost use Rattle.template_core.specs.Tables.{IsTable, step};
+ghost use Rattle.template_core.specs.declared.class.Class.TheVariants.{Other};
 ghost use Rattle.live_monitor.specs.Standing.{IsStanding};
 ghost use Rattle.live_monitor.specs.Watching.{IsWatched, TableAcceptsFrom, standing_by};
 
 use crate::Standing;
 use crate::leading::leading_to;
-use template_core::{Constraint, Table};
+use template_core::{Class, Constraint, Table};
 use template_set::table_of;
 
 /// A constraint with its automaton, and the standing of a trace that leads to each state of it.
@@ -14,6 +15,8 @@ use template_set::table_of;
 pub(crate) struct Watched {
     pub constraint: Constraint,
     pub table: Table,
+    /// Whether an event of no activity of the constraint changes no state.
+    pub stays: bool,
     pub standings: [Standing; 12],
 }
 
@@ -29,9 +32,23 @@ impl Watched {
         Watched {
             constraint: *constraint,
             table,
+            stays: stays(&table),
             standings,
         }
     }
+}
+
+/// Whether an event of no activity of the constraint leads from each state back to it.
+fn stays(table: &Table) -> bool
+    requires { IsTable table.now }
+    ensures { IsTrue result ↔ ((state : ℕ) → state < table.now.states → step table.now state Other ≡ state) }
+{
+    for state in 0..table.states {
+        if table.step(state, Class::Other) != state {
+            return false;
+        }
+    }
+    true
 }
 
 /// The standings of traces that lead to the states of a table.

@@ -1,5 +1,5 @@
 -- Lines of running cases, read and printed one by one.
-use Rattle.std.proofs.Common.{◌==◌, ◌≡◌, ℕ, ◌+◌, ◌-◌, ◌<◌, ◌≤◌, List, [], ◌∷◌, ◌++◌, Bool, true, false, not, Option, None, Some, Ok, IfSome, get_or, length, map, refl, sym, ap, ap₂, subst, ◌∙◌, arith, append-nil, append_assoc, length-append, true≢false, ⊎_elim}
+use Rattle.std.proofs.Common.{inl, inr, ◌==◌, ◌≡◌, ℕ, ◌+◌, ◌-◌, ◌<◌, ◌≤◌, List, [], ◌∷◌, ◌++◌, Bool, true, false, not, Option, None, Some, Ok, IfSome, get_or, length, map, refl, sym, ap, ap₂, subst, ◌∙◌, arith, append-nil, append_assoc, length-append, true≢false, ⊎_elim}
 use Rattle.std.specs.Prelude.{slice_get, string_bytes, take}
 use Rattle.std.specs.Io.KnownBytes.{append_known, prepend_known}
 use Rattle.std.specs.List.{slice_split}
@@ -27,7 +27,7 @@ use Rattle.template_core.specs.declared.constraint.Constraint.{Constraint}
 use Rattle.monitor_lines.specs.Cases.{Event, cases_of, event_of, events_in, has_tab, symbol_count}
 use Rattle.monitor_lines.specs.Faults.{fault_behind, first_fault}
 use Rattle.monitor_lines.specs.LineText.{AreOnes, AreTexts, IsText, line_text, quoted}
-use Rattle.monitor_lines.specs.Stepping.{IsReady, LineCause, TakesLine, TellsStandings, begun, stepped}
+use Rattle.monitor_lines.specs.Stepping.{HandsOver, IsReady, LineCause, NextCause, TakesLine, TellsStandings, begun, stepped}
 use Rattle.monitor_lines.specs.Watching.{IsSoundFront, Prints, PrintsAll, PrintsBefore, PrintsPart, PrintsSome, PrintsTaken, WatchCause}
 use Rattle.monitor_lines.specs.declared.cases.Cases.{Cases}
 use Rattle.monitor_lines.proofs.Kept.{HasTraces, HasTraces-more, HasTraces-none, cases_of-push, trace-own}
@@ -78,12 +78,18 @@ pub record IsKept (limits : Limits) (names : List (List ℕ)) (list : List Const
   pub symbols : symbols_of cases.monitor ≡ symbol_count names
   pub constraints : constraints_of cases.monitor ≡ list
 
--- the sink holds these bytes more
-pub record IsPrinted (old now : SinkState) (bytes : List ℕ) : Type 0 where
+-- the sink holds these bytes more, but for those that wait, which stand at their end
+pub record IsPrinted (old now : SinkState) (bytes waiting : List ℕ) : Type 0 where
+  pub front : List ℕ
+  pub split : bytes ≡ front ++ waiting
   pub later : old.faults ≤ now.faults
   pub takes : now.takes_any_length ≡ true
-  pub held : now.held ≡ append_known old.held bytes
-  pub room : now.room ≡ old.room - length bytes
+  pub held : now.held ≡ append_known old.held front
+  pub room : now.room ≡ old.room - length front
+
+-- where none waits, it holds all of them more
+all_held : (old now : SinkState) (bytes waiting : List ℕ) → IsPrinted old now bytes waiting → waiting ≡ [] → now.held ≡ append_known old.held bytes
+all_held old now bytes waiting h none = h.held ∙ ap (append_known old.held) (sym (h.split ∙ ap (λ l. h.front ++ l) none ∙ append-nil h.front))
 
 -- some lines of the bytes are read, and these are their events
 pub record IsReadTo (limits : Limits) (bytes : List ℕ) (rest : Option (List ℕ)) (has_ended : Bool) (events : List Event) : Type 0 where
@@ -96,8 +102,8 @@ pub record IsReadTo (limits : Limits) (bytes : List ℕ) (rest : Option (List �
   pub ended : has_ended ≡ true → pieces left ≡ []
   pub all_ended : has_ended ≡ false → AreEnded done
 
-pub record IsBetween (limits : Limits) (names : List (List ℕ)) (list : List Constraint) (old now : InputState) (old_out out : SinkState) (lines : LinesState) (cases : Cases) (events : List Event)
-    (texts : List (List ℕ)) : Type 0 where
+pub record IsBetween (limits : Limits) (names : List (List ℕ)) (list : List Constraint) (old now : InputState) (old_out out : SinkState) (lines : LinesState) (cases : Cases) (waiting : List ℕ)
+    (events : List Event) (texts : List (List ℕ)) : Type 0 where
   pub keeps : KeepsInput old now
   pub live : lines.is_live ≡ true
   pub limit : lines.limit ≡ limits.line_bytes
@@ -105,7 +111,7 @@ pub record IsBetween (limits : Limits) (names : List (List ℕ)) (list : List Co
   pub few : length events ≤ limits.events
   pub kept : IsKept limits names list events cases
   pub texts_are : AreTexts names list events texts
-  pub printed : IsPrinted old_out out (joined texts)
+  pub printed : IsPrinted old_out out (joined texts) waiting
   pub told : IfSome old.left (λ bytes. IsReadTo limits bytes (rest_of lines now) lines.has_ended events)
 
 -- ---- before the first line
@@ -114,8 +120,8 @@ append_known-nil : (known : Option (List ℕ)) → known ≡ append_known known 
 append_known-nil None = refl
 append_known-nil (Some xs) = ap Some (sym (append-nil xs))
 
-IsPrinted-none : (out : SinkState) → out.takes_any_length ≡ true → IsPrinted out out []
-IsPrinted-none out takes = record { later = omega arith; takes = takes; held = append_known-nil out.held; room = omega arith }
+IsPrinted-none : (out : SinkState) → out.takes_any_length ≡ true → IsPrinted out out [] []
+IsPrinted-none out takes = record { front = []; split = refl; later = omega arith; takes = takes; held = append_known-nil out.held; room = omega arith }
 
 told_none : (limits : Limits) (left : Option (List ℕ)) → IfSome left (λ bytes. IsReadTo limits bytes (prepend_known [] left) false [])
 told_none limits None = tt
@@ -134,9 +140,9 @@ abbrev pub ready : ℕ → LinesState
 ready limit = record { held = []; given = 0; limit = limit; is_live = true; has_ended = false; line = None }
 
 pub IsBetween-none : (limits : Limits) (names : List (List ℕ)) (list : List Constraint) (state : InputState) (out : SinkState) (lines : LinesState) (cases : Cases) → state.is_open ≡ true
-    → out.takes_any_length ≡ true → lines ≡ ready limits.line_bytes → IsKept limits names list [] cases → IsBetween limits names list state state out out lines cases [] []
+    → out.takes_any_length ≡ true → lines ≡ ready limits.line_bytes → IsKept limits names list [] cases → IsBetween limits names list state state out out lines cases [] [] []
 IsBetween-none limits names list state out lines cases is_open takes lines_are kept =
-    subst (λ l. IsBetween limits names list state state out out l cases [] []) (sym lines_are) (record {
+    subst (λ l. IsBetween limits names list state state out out l cases [] [] []) (sym lines_are) (record {
       keeps = record { later = omega arith; stays_open = is_open; asked = refl; names = refl; contents = refl };
       live = refl;
       limit = refl;
@@ -185,8 +191,8 @@ front_of limits bytes rest has_ended events read = record { others = pieces read
 -- ---- one line more
 
 module _ (limits : Limits) (names : List (List ℕ)) (list : List Constraint) (old now after : InputState) (old_out out : SinkState) (lines next_lines : LinesState) (cases next : Cases)
-    (events : List Event) (texts : List (List ℕ)) (line : LineValue) (id : ℕ)
-    (h : IsBetween limits names list old now old_out out lines cases events texts) (gives : GivesLine lines next_lines now after (Some line))
+    (waiting : List ℕ) (events : List Event) (texts : List (List ℕ)) (line : LineValue) (id : ℕ)
+    (h : IsBetween limits names list old now old_out out lines cases waiting events texts) (gives : GivesLine lines next_lines now after (Some line))
     (takes : TakesLine limits names cases next line id) where
   abbrev event : Event
   event = event_of line.bytes
@@ -286,65 +292,103 @@ module _ (limits : Limits) (names : List (List ℕ)) (list : List Constraint) (o
       go None read = tt
       go (Some bytes) read = told_more bytes read
 
-  -- its text was written
-  pub IsBetween-more : {T E : Type 0} (next_out : SinkState) (text : List ℕ) (v : T) → KeepsInput now after → next_lines.is_live ≡ true → next_lines.limit ≡ lines.limit → IsText names list events event text
-      → WritesAll {T = T} {E = E} out next_out text (Ok v) → IsBetween limits names list old after old_out next_out next_lines next (events ++ event ∷ []) (texts ++ text ∷ [])
-  IsBetween-more next_out text v keeps live limit is writes =
-      let grown : joined (texts ++ text ∷ []) ≡ joined texts ++ text = events_of-push texts text in
-      let long : length (joined (texts ++ text ∷ [])) ≡ length (joined texts) + length text = ap length grown ∙ length-append (joined texts) text in
-      record {
-        keeps = keeps_input old now after h.keeps keeps;
-        live = live;
-        limit = limit ∙ h.limit;
-        given = omega (arith, gives.1, h.given, length_push events event);
-        few = omega (arith, length_push events event, gives.0, h.given, takes.few);
-        kept = kept_after;
-        texts_are = AreTexts-push names list events event texts text h.texts_are is;
-        printed = record {
-          later = omega (arith, h.printed.later, writes.later);
-          takes = writes.takes ∙ h.printed.takes;
-          held = writes.whole ∙ ap (λ k. append_known k text) h.printed.held ∙ append_known-append_known old_out.held (joined texts) text ∙ ap (append_known old_out.held) (sym grown);
-          room = omega (arith, writes.room, h.printed.room, long);
-        };
-        told = told_on;
-      }
+  -- its text waits behind the others
+  pub IsBetween-more : (text : List ℕ) → KeepsInput now after → next_lines.is_live ≡ true → next_lines.limit ≡ lines.limit → IsText names list events event text
+      → IsBetween limits names list old after old_out out next_lines next (waiting ++ text) (events ++ event ∷ []) (texts ++ text ∷ [])
+  IsBetween-more text keeps live limit is = record {
+    keeps = keeps_input old now after h.keeps keeps;
+    live = live;
+    limit = limit ∙ h.limit;
+    given = omega (arith, gives.1, h.given, length_push events event);
+    few = omega (arith, length_push events event, gives.0, h.given, takes.few);
+    kept = kept_after;
+    texts_are = AreTexts-push names list events event texts text h.texts_are is;
+    printed = record {
+      front = h.printed.front;
+      split = events_of-push texts text ∙ ap (λ l. l ++ text) h.printed.split ∙ append_assoc h.printed.front waiting text;
+      later = h.printed.later;
+      takes = h.printed.takes;
+      held = h.printed.held;
+      room = h.printed.room;
+    };
+    told = told_on;
+  }
 
-  -- its text was written in part
-  pub part_written : (next_out : SinkState) (text : List ℕ) → IsText names list events event text → HoldsFront out next_out text → IfSome old.left (λ bytes. PrintsPart limits names list bytes old_out next_out)
-  part_written next_out text is front = go old.left told_on
+-- ---- texts that waited
+
+-- what is written whole is handed over
+pub all_over : {T E : Type 0} (out next_out : SinkState) (waiting : List ℕ) (v : T) → WritesAll {T = T} {E = E} out next_out waiting (Ok v) → HandsOver out next_out waiting []
+all_over out next_out waiting v writes = record {
+  moved = waiting;
+  split = sym (append-nil waiting);
+  later = writes.later;
+  takes = writes.takes;
+  held = writes.whole;
+  room = writes.room;
+}
+
+-- or nothing is
+pub none_over : (out : SinkState) (waiting : List ℕ) → HandsOver out out waiting waiting
+none_over out waiting = record { moved = []; split = refl; later = omega arith; takes = refl; held = append_known-nil out.held; room = omega arith }
+
+module _ (limits : Limits) (names : List (List ℕ)) (list : List Constraint) (old now : InputState) (old_out out next_out : SinkState) (lines : LinesState) (cases : Cases)
+    (waiting : List ℕ) (events : List Event) (texts : List (List ℕ)) (h : IsBetween limits names list old now old_out out lines cases waiting events texts) where
+  -- some were handed over
+  pub IsBetween-handed : (left : List ℕ) → HandsOver out next_out waiting left → IsBetween limits names list old now old_out next_out lines cases left events texts
+  IsBetween-handed left over = record {
+    keeps = h.keeps;
+    live = h.live;
+    limit = h.limit;
+    given = h.given;
+    few = h.few;
+    kept = h.kept;
+    texts_are = h.texts_are;
+    printed = record {
+      front = h.printed.front ++ over.moved;
+      split = h.printed.split ∙ ap (λ l. h.printed.front ++ l) over.split ∙ sym (append_assoc h.printed.front over.moved left);
+      later = omega (arith, h.printed.later, over.later);
+      takes = over.takes ∙ h.printed.takes;
+      held = over.held ∙ ap (λ k. append_known k over.moved) h.printed.held ∙ append_known-append_known old_out.held h.printed.front over.moved;
+      room = omega (arith, over.room, h.printed.room, length-append h.printed.front over.moved);
+    };
+    told = h.told;
+  }
+
+  -- a write failed
+  pub part_handed : HoldsFront out next_out waiting → IfSome old.left (λ bytes. PrintsPart limits names list bytes old_out next_out)
+  part_handed front = go old.left h.told
     where
-      grown : joined (texts ++ text ∷ []) ≡ joined texts ++ text
-      grown = events_of-push texts text
+      n : ℕ
+      n = front.0
 
-      -- a prefix of the last text is one of all
-      holds : HoldsFront old_out next_out (joined (texts ++ text ∷ []))
-      holds =
-          let n = front.0 in
-          let taken : take (length (joined texts) + n) (joined (texts ++ text ∷ [])) ≡ joined texts ++ take n text =
-          ap (take (length (joined texts) + n)) grown ∙ take-append-add (joined texts) text n in (
-            length (joined texts) + n,
-            omega (arith, front.1, ap length grown, length-append (joined texts) text),
-            front.2 ∙ ap (λ k. append_known k (take n text)) h.printed.held ∙ append_known-append_known old_out.held (joined texts) (take n text) ∙ ap (append_known old_out.held) (sym taken),
-            omega (arith, front.3, h.printed.room),
-          )
+      taken : take (length h.printed.front + n) (joined texts) ≡ h.printed.front ++ take n waiting
+      taken = ap (take (length h.printed.front + n)) h.printed.split ∙ take-append-add h.printed.front waiting n
 
-      go : (left : Option (List ℕ)) → IfSome left (λ bytes. IsReadTo limits bytes (rest_of next_lines after) next_lines.has_ended (events ++ event ∷ []))
-          → IfSome left (λ bytes. PrintsPart limits names list bytes old_out next_out)
+      -- a prefix of those that waited, behind those that were handed over, is one of all
+      holds : HoldsFront old_out next_out (joined texts)
+      holds = (
+        length h.printed.front + n,
+        omega (arith, front.1, ap length h.printed.split, length-append h.printed.front waiting),
+        front.2 ∙ ap (λ k. append_known k (take n waiting)) h.printed.held ∙ append_known-append_known old_out.held h.printed.front (take n waiting) ∙ ap (append_known old_out.held) (sym taken),
+        omega (arith, front.3, h.printed.room),
+      )
+
+      go : (left : Option (List ℕ)) → IfSome left (λ bytes. IsReadTo limits bytes (rest_of lines now) lines.has_ended events) → IfSome left (λ bytes. PrintsPart limits names list bytes old_out next_out)
       go None read = tt
       go (Some bytes) read = (
         read.done,
-        texts ++ text ∷ [],
-        front_of limits bytes (rest_of next_lines after) next_lines.has_ended (events ++ event ∷ []) read,
-        subst (λ l. AreTexts names list l (texts ++ text ∷ [])) read.events_are (AreTexts-push names list events event texts text h.texts_are is),
+        texts,
+        front_of limits bytes (rest_of lines now) lines.has_ended events read,
+        subst (λ l. AreTexts names list l texts) read.events_are h.texts_are,
         holds,
       )
 
 -- ---- a run that ends
 
 module _ (limits : Limits) (names : List (List ℕ)) (list : List Constraint) (old now after : InputState) (old_out out : SinkState) (lines next_lines : LinesState) (cases : Cases)
-    (events : List Event) (texts : List (List ℕ)) (h : IsBetween limits names list old now old_out out lines cases events texts) where
+    (events : List Event) (texts : List (List ℕ)) (h : IsBetween limits names list old now old_out out lines cases [] events texts) where
   prints : (done : List Piece) → events ≡ events_in done → Prints names list done old_out out
-  prints done are = (texts, subst (λ l. AreTexts names list l texts) are h.texts_are, h.printed.held)
+  prints done are = (texts, subst (λ l. AreTexts names list l texts) are h.texts_are, all_held old_out out (joined texts) [] h.printed refl)
 
   -- memory was out
   pub prints_some : IfSome old.left (λ bytes. PrintsSome limits names list bytes old_out out)
@@ -474,3 +518,8 @@ module _ (limits : Limits) (names : List (List ℕ)) (list : List Constraint) (o
     )
     line_cause refusal.Memory c = prints_some
     line_cause _ c = absurd c
+
+  -- the next line wasn't taken
+  pub next_cause : (r : Refusal) → NextCause limits cases.found.names lines next_lines now after r → WatchCause limits names list old after old_out out r
+  next_cause r (inl none) = lines_cause r none.0 none.1
+  next_cause r (inr at) = line_cause at.0 at.1 r at.2

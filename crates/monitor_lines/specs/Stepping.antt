@@ -1,10 +1,13 @@
--- Internal: what a line does to what is kept of the cases.
-use Rattle.std.specs.Prelude.{◌≡◌, ℕ, ◌<◌, ◌≤◌, List, [], ◌∷◌, ◌++◌, true, false, if◌then◌else◌, map, length, slice_set, slice_index_or, string_bytes}
+-- Internal: what a line does to what is kept of the cases, and to the texts that wait.
+use Rattle.std.specs.Prelude.{◌≡◌, ◌⊎◌, ℕ, ◌+◌, ◌-◌, ◌<◌, ◌≤◌, List, [], ◌∷◌, ◌++◌, Bool, true, false, None, Some, if◌then◌else◌, map, length, slice_set, slice_index_or, string_bytes}
+use Rattle.std.specs.Io.KnownBytes.{append_known}
 use Rattle.std.specs.Str.{is_utf8}
 use Rattle.decl_base.specs.declared.limits.Limits.{Limits}
 use Rattle.decl_base.specs.declared.refusal.Refusal.{Refusal}
 use Rattle.decl_base.specs.declared.refusal.Refusal.TheVariants as refusal
-use Rattle.decl_outside.specs.Lines.{LineValue}
+use Rattle.decl_outside.specs.Inputs.{InputState}
+use Rattle.decl_outside.specs.Lines.{FillCause, GivesLine, LinesState, LineValue}
+use Rattle.decl_outside.specs.Sink.{SinkState}
 use Rattle.event_log.specs.Alphabet.{Names}
 use Rattle.event_log.specs.Logs.{has_name, place_of, with_name}
 use Rattle.live_monitor.specs.Standing.{IsStanding}
@@ -76,3 +79,37 @@ TellsStandings cases number case text =
     × ((traces : List (List ℕ)) → StandsFor cases.monitor traces
     → IsStanding (symbols_of cases.monitor) (KeepsAll (constraints_of cases.monitor)) (trace_of traces case) whole
     × AreOnes (symbols_of cases.monitor) (constraints_of cases.monitor) (trace_of traces case) each)
+
+-- ---- texts that wait
+
+-- what waited was handed over, but for what is left
+pub record HandsOver (old now : SinkState) (waiting left : List ℕ) : Type 0 where
+  pub moved : List ℕ
+  pub split : waiting ≡ moved ++ left
+  pub later : old.faults ≤ now.faults
+  pub takes : now.takes_any_length ≡ old.takes_any_length
+  pub held : now.held ≡ append_known old.held moved
+  pub room : now.room ≡ old.room - length moved
+
+-- the next line was taken, and its text waits behind the others
+pub record PutsLine (limits : Limits) (names : List (List ℕ)) (lines lines' : LinesState) (input input' : InputState) (cases cases' : Cases) (waiting waiting' : List ℕ) : Type 0 where
+  pub line : LineValue
+  pub id : ℕ
+  pub text : List ℕ
+  pub live : lines'.is_live ≡ true
+  pub limit : lines'.limit ≡ lines.limit
+  pub gives : GivesLine lines lines' input input' (Some line)
+  pub takes : TakesLine limits names cases cases' line id
+  pub tells : TellsStandings cases' line.number id text
+  pub waits : waiting' ≡ waiting ++ text
+
+-- there was a line, or none
+abbrev pub PutsNext : Limits → List (List ℕ) → LinesState → LinesState → InputState → InputState → Cases → Cases → List ℕ → List ℕ → Bool → Type 0
+PutsNext limits names lines lines' input input' cases cases' waiting waiting' true = PutsLine limits names lines lines' input input' cases cases' waiting waiting'
+PutsNext limits names lines lines' input input' cases cases' waiting waiting' false = GivesLine lines lines' input input' None × (waiting' ≡ waiting)
+
+-- why the next line wasn't taken: none came, or it has a fault
+abbrev pub NextCause : Limits → List (List ℕ) → LinesState → LinesState → InputState → InputState → Refusal → Type 0
+NextCause limits found lines lines' input input' r =
+    ((lines.has_ended ≡ true → false ≡ true) × FillCause lines.limit (lines.given + 1) lines.held lines'.held input input' r)
+    ⊎ (line : LineValue) × GivesLine lines lines' input input' (Some line) × LineCause limits found line r

@@ -2,7 +2,9 @@
 #![tactic(auto)]
 
 mod cases;
+mod next_line;
 mod text;
+mod waiting;
 mod watching;
 
 pub use watching::{monitor_of, watch};

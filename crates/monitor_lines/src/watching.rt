@@ -1,7 +1,6 @@
 ghost use Rattle.std.specs.Prelude.{◌≡◌, ◌≤◌, [], length, All, true, IfOk, IfErr, IfSome, OnOk};
 ghost use Rattle.decl_base.specs.Limits.{greatest_state_limit, standard};
 ghost use Rattle.decl_outside.specs.Inputs.{KeepsInput};
-ghost use Rattle.decl_outside.specs.Sink.{WritesAll};
 ghost use Rattle.list_dfa.specs.Lists.{IsNarrowList};
 ghost use Rattle.live_monitor.specs.Stands.{StandsFor, constraints_of, symbols_of};
 ghost use Rattle.template_core.specs.Constraints.{IsWellMadeFor};
@@ -9,8 +8,10 @@ ghost use Rattle.monitor_lines.specs.Cases.{symbol_count};
 ghost use Rattle.monitor_lines.specs.Watching.{CanWatch, PrintsAll, RefusesModel, WatchCause, most_constraints};
 
 use crate::cases::Cases;
+use crate::next_line::put_next;
+use crate::waiting::{Texts, hand_over, settle};
 use decl_base::{Limits, Refusal};
-use decl_outside::{Failed, Inputs, Lines, Sink, write_all};
+use decl_outside::{Inputs, Lines, Sink};
 use event_log::Alphabet;
 use live_monitor::Monitor;
 use std::alloc::Global;
@@ -48,8 +49,9 @@ pub fn monitor_of(
 }
 
 /// Reads the lines that are left, each of which names a case and, behind its first tab, an event of it, and writes the
-/// text of each before it reads the next: how the case stands by the list of constraints that the monitor watches, and by
-/// each of them. `names` has the name of each symbol but the last, which is that of every other name.
+/// text of each: how the case stands by the list of constraints that the monitor watches, and by each of them. `names` has
+/// the name of each symbol but the last, which is that of every other name. The texts of lines that were read at once are
+/// written at once, and all of them before more is read.
 ///
 /// Refusals, of the first line at fault: `LineLong`, `NotUtf8`, `NoTab`, `Events`, `Traces`, where lines are counted from 1,
 /// and the texts of the lines before it are written. `ReadFault` comes where a read fails before a line at fault was read
@@ -80,27 +82,28 @@ pub fn watch<I: Inputs, O: Sink>(
 {
     let mut lines = Lines::new(alloc, limits.line_bytes)?;
     let mut cases = Cases::new(alloc, monitor, limits.traces);
-    let mut text = Vec::new(alloc);
+    let mut texts = Texts::new(alloc);
     let constraints = list.len() as u32;
     'lines: loop {
-        lines.next(inputs)?;
-        let Some(line) = lines.line() else {
-            return Ok(());
-        };
-        let case = cases.take(names, &line, limits)?;
-        cases.put_text(line.number(), case, constraints, &mut text)?;
-        write_text(out, &text)?;
-    }
-}
-
-/// Hands a text to the sink.
-fn write_text<O: Sink>(out: &mut O, text: &[u8]) -> Result<(), Refusal>
-    requires { (O.state out.old).takes_any_length ≡ true }
-    ensures writes { WritesAll (O.state out.old) (O.state out.new) text.now result }
-    ensures err { IfErr result (λ e. e ≡ Refusal.WriteFault) }
-{
-    match write_all(out, text) {
-        Ok(()) => Ok(()),
-        Err(Failed) => Err(Refusal::WriteFault),
+        settle(out, &mut texts, &lines)?;
+        match put_next(
+            names,
+            &mut lines,
+            &mut cases,
+            inputs,
+            &mut texts,
+            limits,
+            constraints,
+        ) {
+            Ok(true) => {}
+            Ok(false) => {
+                hand_over(out, &mut texts)?;
+                return Ok(());
+            }
+            Err(refusal) => {
+                hand_over(out, &mut texts)?;
+                return Err(refusal);
+            }
+        }
     }
 }

@@ -1,4 +1,4 @@
-use Rattle.std.proofs.Common.{◌≡◌, [], true, refl, ◌∙◌, rules, arith}
+use Rattle.std.proofs.Common.{[], true, ◌∙◌, rules, arith}
 use Rattle.std.proofs.lemmas.List.{length-set}
 use Rattle.live_monitor.proofs.Marks.{complete, contains-set, leads-one, sound-set, unmarked-set}
 use Rattle.live_monitor.proofs.leading.leading_to.Goals as goal

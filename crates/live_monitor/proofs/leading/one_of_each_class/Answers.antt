@@ -1,4 +1,4 @@
-use Rattle.std.proofs.Common.{◌≡◌, inl, inr, arith}
+use Rattle.std.proofs.Common.{inl, inr, arith}
 use Rattle.live_monitor.proofs.Marks.{each-class, other-class}
 use Rattle.live_monitor.proofs.leading.one_of_each_class.Goals as goal
 use Rattle.live_monitor.proofs.leading.one_of_each_class.Goals.{then-other-symbols, else-other-symbols}

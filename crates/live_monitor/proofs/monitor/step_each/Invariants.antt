@@ -1,4 +1,3 @@
-use Rattle.std.proofs.Common.{◌≡◌, length}
 use Rattle.live_monitor.specs.Watching.{AreStepped}
 use Rattle.live_monitor.proofs.monitor.step_each.Given as goal
 

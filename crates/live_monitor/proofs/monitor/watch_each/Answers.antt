@@ -1,4 +1,4 @@
-use Rattle.std.proofs.Common.{◌≡◌, All, subst, sym}
+use Rattle.std.proofs.Common.{All, subst, sym}
 use Rattle.std.proofs.lemmas.List.Elements.{All-push}
 use Rattle.live_monitor.specs.Watching.{IsWatched}
 use Rattle.live_monitor.proofs.Leads.{constraints-push}

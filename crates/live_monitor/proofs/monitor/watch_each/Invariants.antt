@@ -1,4 +1,4 @@
-use Rattle.std.proofs.Common.{◌≡◌, All, map, take}
+use Rattle.std.proofs.Common.{◌≡◌, All, take}
 use Rattle.live_monitor.specs.Stands.{watched_constraints}
 use Rattle.live_monitor.specs.Watching.{IsWatched}
 use Rattle.live_monitor.proofs.monitor.watch_each.Given as goal

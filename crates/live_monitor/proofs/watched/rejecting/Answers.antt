@@ -1,4 +1,4 @@
-use Rattle.std.proofs.Common.{◌≡◌, inl, inr, false, not, length, refl, slice_index_or, ◌∙◌, ap, sym, arith}
+use Rattle.std.proofs.Common.{inl, inr, false, not, slice_index_or, ◌∙◌, arith}
 use Rattle.std.proofs.lemmas.Bool.{cases_eq}
 use Rattle.std.proofs.lemmas.List.{get_or-set_other, get_or-set_same, length-set}
 use Rattle.live_monitor.proofs.watched.rejecting.Goals as goal

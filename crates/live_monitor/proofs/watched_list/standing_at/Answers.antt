@@ -1,4 +1,4 @@
-use Rattle.std.proofs.Common.{◌≡◌, [], sym, subst}
+use Rattle.std.proofs.Common.{[], sym, subst}
 use Rattle.live_monitor.specs.Standing.{IsStanding}
 use Rattle.live_monitor.specs.Watching.{AcceptsFrom}
 use Rattle.live_monitor.proofs.Standings.{standing-settled}

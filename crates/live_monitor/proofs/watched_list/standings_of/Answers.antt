@@ -1,4 +1,4 @@
-use Rattle.std.proofs.Common.{◌≡◌, ◌+◌, ◌∙◌, ap, length}
+use Rattle.std.proofs.Common.{◌+◌, ◌∙◌, ap, length}
 use Rattle.std.proofs.lemmas.List.{length_push}
 use Rattle.live_monitor.proofs.Standings.{standings-push}
 use Rattle.live_monitor.proofs.watched_list.standings_of.Goals as goal

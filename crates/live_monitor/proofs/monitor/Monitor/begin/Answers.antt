@@ -1,4 +1,4 @@
-use Rattle.std.proofs.Common.{◌≡◌, ◌++◌, ◌∷◌, [], List, ◌∙◌, ap, map}
+use Rattle.std.proofs.Common.{◌++◌, ◌∷◌, [], List, ◌∙◌, ap, map}
 use Rattle.live_monitor.specs.declared.watched.Watched.{Watched}
 use Rattle.live_monitor.proofs.Leads.{lead-begin}
 use Rattle.live_monitor.proofs.monitor.Monitor.begin.Goals as goal

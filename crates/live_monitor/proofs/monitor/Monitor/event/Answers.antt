@@ -1,4 +1,4 @@
-use Rattle.std.proofs.Common.{◌≡◌, ◌<◌, ◌+◌, ◌*◌, ◌∙◌, ap, sym, length, slice_get, get_or, subst, arith}
+use Rattle.std.proofs.Common.{◌≡◌, ◌*◌, ◌∙◌, ap, sym, length, slice_get, subst, arith}
 use Rattle.std.proofs.lemmas.List.{get_or_read}
 use Rattle.live_monitor.specs.Watching.{AreStepped}
 use Rattle.dfa_core.specs.Automaton.{step}

@@ -1,4 +1,4 @@
-use Rattle.std.proofs.Common.{◌≡◌, []}
+use Rattle.std.proofs.Common.{[]}
 use Rattle.live_monitor.proofs.Leads.{lead-new}
 use Rattle.live_monitor.proofs.monitor.Monitor.new.Goals as goal
 

@@ -1,6 +1,5 @@
-use Rattle.std.proofs.Common.{◌≡◌, ◌<◌, length, subst, sym, arith}
+use Rattle.std.proofs.Common.{◌<◌, length, subst, sym, arith}
 use Rattle.std.proofs.lemmas.List.{get_or_read}
-use Rattle.dfa_core.specs.Automaton.{state_count}
 use Rattle.live_monitor.specs.Standing.{IsStanding}
 use Rattle.live_monitor.specs.Stands.{constraints_of, symbols_of, trace_of}
 use Rattle.live_monitor.specs.declared.standing.Standing.TheVariants.{Kept}

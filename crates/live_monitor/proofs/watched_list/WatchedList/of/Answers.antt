@@ -1,6 +1,5 @@
-use Rattle.std.proofs.Common.{◌≡◌, [], subst, slice_index_or}
+use Rattle.std.proofs.Common.{[], subst, slice_index_or}
 use Rattle.list_dfa.specs.Lists.{IsListed}
-use Rattle.list_dfa.specs.declared.listed.Listed.TheVariants.{Narrow}
 use Rattle.live_monitor.specs.Standing.{IsStanding}
 use Rattle.live_monitor.specs.Watching.{AcceptsFrom}
 use Rattle.live_monitor.specs.declared.standing.Standing.TheVariants.{Kept}

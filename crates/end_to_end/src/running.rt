@@ -132,7 +132,7 @@ fn a_read_fails_between_lines(rt: HostRuntime) -> Result<(), Fail> {
     Ok(())
 }
 
-/// A text is written before the next line is read: the second write fails, and the first text stands.
+/// A text is written before more is read: the second write fails, and the first text stands.
 #[test]
 fn a_write_fails_between_lines(rt: HostRuntime) -> Result<(), Fail> {
     let mut inputs = MemInputs::new(rt.alloc(), 1, Vec::new(rt.alloc()));

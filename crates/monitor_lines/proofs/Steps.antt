@@ -190,6 +190,11 @@ front_of limits bytes rest has_ended events read = record { others = pieces read
 
 -- ---- one line more
 
+-- the number of a line's case is one of the cases'
+pub id_begun : (limits : Limits) (names : List (List ℕ)) (cases next : Cases) (line : LineValue) (id : ℕ) → TakesLine limits names cases next line id → id < length next.found.names
+id_begun limits names cases next line id takes =
+    omega (arith, takes.id_is, (place-with_name cases.found.names (event_of line.bytes).case).0, ap (λ n. length n.names) takes.found)
+
 module _ (limits : Limits) (names : List (List ℕ)) (list : List Constraint) (old now after : InputState) (old_out out : SinkState) (lines next_lines : LinesState) (cases next : Cases)
     (waiting : List ℕ) (events : List Event) (texts : List (List ℕ)) (line : LineValue) (id : ℕ)
     (h : IsBetween limits names list old now old_out out lines cases waiting events texts) (gives : GivesLine lines next_lines now after (Some line))
@@ -222,10 +227,6 @@ module _ (limits : Limits) (names : List (List ℕ)) (list : List Constraint) (o
     symbols = takes.symbols ∙ h.kept.symbols;
     constraints = takes.constraints ∙ h.kept.constraints;
   }
-
-  -- the case has a number below that of the cases
-  pub begun_after : id < length next.found.names
-  begun_after = omega (arith, takes.id_is, (place-with_name cases.found.names event.case).0, ap length found_is)
 
   -- the text of the line
   pub text_after : (number : ℕ) (text : List ℕ) → number ≡ line.number → TellsStandings next number id text → IsText names list events event text

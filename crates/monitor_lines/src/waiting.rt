@@ -37,6 +37,7 @@ pub(crate) fn settle<O: Sink>(out: &mut O, texts: &mut Texts, lines: &Lines) -> 
     requires { (O.state out.old).takes_any_length ≡ true }
     ensures ok { OnOk result (HandsOver (O.state out.old) (O.state out.new) texts.old.waiting.items texts.new.waiting.items) }
     ensures all { OnOk result (length lines.now.held ≤ line_length lines.now.held → texts.new.waiting.items ≡ []) }
+    ensures later { (O.state out.old).faults ≤ (O.state out.new).faults }
     ensures rose { OnErr result (Rose (O.state out.old).faults (O.state out.new).faults) }
     ensures takes { OnErr result ((O.state out.new).takes_any_length ≡ true) }
     ensures front { OnErr result (HoldsFront (O.state out.old) (O.state out.new) texts.old.waiting.items) }

@@ -1,7 +1,8 @@
 -- What holds while loops go on.
 use Rattle.std.specs.Prelude.{◌≡◌, ℕ, ◌<◌, ◌≤◌, ◌*◌, ◌+◌, List, Option, None, Some, MatchOption, length, slice_index_or as get_or}
 use Rattle.dfa_core.specs.Automaton.{Automaton, state_count, step_column}
-use Rattle.dfa_minimise.specs.Partitions.{IsRefinable, MarksFit, is_in, is_marked}
+use Rattle.dfa_minimise.specs.Classes.{LeadAlike, class_after}
+use Rattle.dfa_minimise.specs.Partitions.{IsRefinable, IsTidy, MarksFit, is_in, is_marked}
 use Rattle.dfa_minimise.specs.Preimages.{IsGreatest}
 use Rattle.dfa_minimise.specs.declared.refinable.Refinable.{Refinable}
 
@@ -47,6 +48,14 @@ pub record AreFilled (a : Automaton) (column state : ℕ) (last before : List (O
   pub last_open : (k t : ℕ) → k < a.width → t < state_count a → column < k → IsGreatest a k t 0 (get_or last (k * state_count a + t) None)
   pub before_of : (k q : ℕ) → k < a.width → q < state_count a → k * state_count a + q < column * state_count a + state
       → IsGreatest a k (step_column a q k) q (get_or before (k * state_count a + q) None)
+
+-- what holds while the columns are put into groups: from the members of the classes below a number, columns of one group lead to one class
+pub record AreGroupedBelow (a : Automaton) (class members : List ℕ) (groups : Refinable) (count : ℕ) : Type 0 where
+  pub tidy : IsTidy groups
+  pub columns : 0 < a.width → length groups.class.items ≡ a.width
+  pub alike : (c j k : ℕ) → c < count → j < a.width → k < a.width → get_or groups.class.items j 0 ≡ get_or groups.class.items k 0
+      → class_after a class (get_or members c 0) j ≡ class_after a class (get_or members c 0) k
+  pub one : (j k : ℕ) → j < a.width → k < a.width → LeadAlike a class j k → get_or groups.class.items j 0 ≡ get_or groups.class.items k 0
 
 -- one above a number, where there is one
 abbrev pub after : Option ℕ → ℕ

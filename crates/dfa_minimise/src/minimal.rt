@@ -1,9 +1,12 @@
-ghost use Rattle.std.specs.Prelude.{◌≡◌, ◌≤◌, length, IfOk, IfErr, MatchOption};
+ghost use Rattle.std.specs.Prelude.{◌≡◌, ◌<◌, ◌≤◌, length, IfOk, IfErr, MatchOption};
 ghost use Rattle.dfa_core.specs.Automaton.{Accepts, IsBreadthFirst, SameLanguage, state_count};
-ghost use Rattle.dfa_minimise.specs.Least.{IsLeast, IsLeastWithin};
-ghost use Rattle.dfa_minimise.specs.Partitions.{IsTidy};
+ghost use Rattle.dfa_core.specs.Columns.{AreColumns};
+ghost use Rattle.dfa_minimise.specs.Classes.{merged, quotient};
+ghost use Rattle.dfa_minimise.specs.Least.{HasDistinctColumns, IsLeast, IsLeastWithin};
+ghost use Rattle.dfa_minimise.specs.Partitions.{IsTidy, members_of};
 ghost use Rattle.dfa_minimise.specs.Wide.{IsWide};
 
+use crate::alike::alike_columns;
 use crate::refinable::Refinable;
 use crate::worklist::equivalent_states;
 use decl_base::Refusal;
@@ -17,6 +20,7 @@ pub fn least(alloc: Global, dfa: &Dfa) -> Result<Dfa, Refusal>
     ensures least { IfOk result IsLeast }
     ensures order { IfOk result IsBreadthFirst }
     ensures columns { IfOk result (λ r. r.width ≤ dfa.now.width) }
+    ensures distinct { IfOk result HasDistinctColumns }
     ensures err { IfErr result (λ e. e ≡ Refusal.Memory) }
 {
     match least_within(alloc, dfa, dfa.states() as u64)? {
@@ -35,27 +39,30 @@ pub fn least_within(alloc: Global, dfa: &Dfa, limit: u64) -> Result<Option<Dfa>,
     let Some(partition) = equivalent_states(alloc, &reached, limit)? else {
         return Ok(None);
     };
+    let groups = alike_columns(alloc, &reached, &partition)?;
     let quotient = Quotient {
         dfa: &reached,
         partition: &partition,
+        groups: &groups,
     };
     let least = reachable(alloc, &quotient)?;
     Ok(Some(least))
 }
 
-/// An automaton whose states are the classes of another's.
+/// An automaton whose states are the classes of another's, and whose columns are the groups of that one's columns.
 #[derive(Drop)]
 struct Quotient<'a> {
     dfa: &'a Dfa,
     partition: &'a Refinable,
+    groups: &'a Refinable,
     ghost tidy: { IsTidy partition.now },
     ghost states: { length partition.now.class.items ≡ state_count dfa.now },
+    ghost tidy_groups: { IsTidy groups.now },
+    ghost columns: { 0 < dfa.now.width → length groups.now.class.items ≡ dfa.now.width },
+    ghost alike: { AreColumns (quotient dfa.now partition.now.class.items (members_of partition.now)) (merged dfa.now groups.now) },
 }
 
 impl System for Quotient<'_> {
-    ghost use Rattle.dfa_minimise.specs.Classes.{quotient};
-    ghost use Rattle.dfa_minimise.specs.Partitions.{members_of};
-
     ghost steps = { λ q. quotient q.dfa.now q.partition.now.class.items (members_of q.partition.now) };
 
     fn symbols(&self) -> u32 {
@@ -81,15 +88,13 @@ impl System for Quotient<'_> {
 }
 
 impl Columned for Quotient<'_> {
-    ghost use Rattle.dfa_core.specs.Columns.{columns_of};
-
-    ghost columns = { λ q. columns_of q.dfa.now };
+    ghost columns = { λ q. merged q.dfa.now q.groups.now };
 
     fn columns(&self) -> usize {
-        self.dfa.columns() as usize
+        self.groups.count() as usize
     }
 
     fn column(&self, symbol: u32) -> usize {
-        self.dfa.column(symbol) as usize
+        self.groups.class_of(self.dfa.column(symbol)) as usize
     }
 }

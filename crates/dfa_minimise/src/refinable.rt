@@ -4,7 +4,8 @@ ghost use Rattle.dfa_minimise.specs.Classes.{AreInClass};
 
 use std::alloc::{AllocError, Global};
 
-/// A partition of the states that can be split. The states of a class stand together in `order`, those that are marked first.
+/// A partition of the states that can be split, or in the same way one of the columns. The states of a class stand together in `order`, those that
+/// are marked first.
 #[derive(Drop)]
 pub(crate) struct Refinable {
     order: Vec<u32>,

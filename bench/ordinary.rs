@@ -83,25 +83,11 @@ enum Template {
 
 use Template::*;
 
+#[rustfmt::skip]
 const FIRST_REPERTOIRE: [Template; 18] = [
-    Init,
-    End,
-    Participation,
-    AtMostOne,
-    ChainSuccession,
-    AlternateSuccession,
-    Succession,
-    CoExistence,
-    ChainResponse,
-    AlternateResponse,
-    Response,
-    ChainPrecedence,
-    AlternatePrecedence,
-    Precedence,
-    RespondedExistence,
-    NotCoExistence,
-    NotSuccession,
-    NotChainSuccession,
+    Init, End, Participation, AtMostOne, ChainSuccession, AlternateSuccession, Succession, CoExistence, ChainResponse,
+    AlternateResponse, Response, ChainPrecedence, AlternatePrecedence, Precedence, RespondedExistence, NotCoExistence,
+    NotSuccession, NotChainSuccession,
 ];
 
 const ONE_SIDED: [Template; 5] =
@@ -841,7 +827,11 @@ fn open(name: &str) -> Outcome<Box<dyn Read>> {
 /// Hands the traces of the log over one by one, and gives the names by their numbers.
 fn read_log(words: &Words, take: impl FnMut(&[String], &[u32])) -> Outcome<Names> {
     let input = open(&words.log)?;
-    if words.csv { read_csv(input, words, take) } else { read_strings(input, take) }
+    if words.csv {
+        read_csv(input, words, take)
+    } else {
+        read_strings(input, take)
+    }
 }
 
 /// The log's counters, its names in the order of their bytes, and the numbers that the counters have for them.
@@ -1438,7 +1428,11 @@ impl Lists {
         }
         let automaton = product.automaton.least();
         let least = automaton.states();
-        if least > self.states { Joined::Wide } else { Joined::List(Rc::new(List { automaton, least })) }
+        if least > self.states {
+            Joined::Wide
+        } else {
+            Joined::List(Rc::new(List { automaton, least }))
+        }
     }
 
     /// The list with others behind it, of which it already has `length`; or the length of the first prefix that is wide.
@@ -1505,7 +1499,11 @@ impl Reducing<'_> {
 
     /// A wide list refuses the run, unless it is to go on.
     fn wide(&self, phase: u8, length: usize) -> Outcome<()> {
-        if self.keep { Ok(()) } else { too_many_states(phase, length) }
+        if self.keep {
+            Ok(())
+        } else {
+            too_many_states(phase, length)
+        }
     }
 
     /// Marks what conflicts with those kept before it. Gives the conflict-free model.
@@ -1537,7 +1535,8 @@ impl Reducing<'_> {
     /// Marks those that a constraint of the model is above.
     fn prune(&mut self) {
         let standing = self.standing();
-        let places: HashMap<Constraint, usize> = standing.iter().map(|place| (self.constraints[*place], *place)).collect();
+        let places: HashMap<Constraint, usize> =
+            standing.iter().map(|place| (self.constraints[*place], *place)).collect();
         let below: Vec<_> = all_templates().into_iter().map(Template::below).collect();
         for place in standing {
             let above = &self.constraints[place];
@@ -1583,9 +1582,8 @@ impl Reducing<'_> {
         for (place, at) in left.iter().enumerate().rev() {
             let constraint = &self.constraints[*at];
             let others: Vec<usize> = behind.iter().rev().copied().collect();
-            let list = prefixes.get(place).map_or(Err(place), |prefix| {
-                self.lists.extend(prefix, place, self.at(&others))
-            });
+            let list =
+                prefixes.get(place).map_or(Err(place), |prefix| self.lists.extend(prefix, place, self.at(&others)));
             self.marks[*at] = match list {
                 Err(length) => {
                     self.wide(3, length)?;
@@ -1610,9 +1608,9 @@ impl Reducing<'_> {
     fn witnesses(&mut self, model: &[usize], done: usize, prefix: Option<&Rc<List>>) -> Outcome<()> {
         let mut prefix = prefix.cloned();
         for (place, at) in model.iter().enumerate().skip(done) {
-            let list = prefix.as_ref().map_or(Err(place), |prefix| {
-                self.lists.extend(prefix, place, self.at(&model[place + 1..]))
-            });
+            let list = prefix
+                .as_ref()
+                .map_or(Err(place), |prefix| self.lists.extend(prefix, place, self.at(&model[place + 1..])));
             match list {
                 Err(length) => {
                     self.wide(4, length)?;
@@ -2161,8 +2159,10 @@ impl Model {
         for (place, item) in constraints.iter().enumerate() {
             let at = place + 1;
             let template = item.member("template").and_then(Json::text).ok_or_else(|| shape(at))?;
-            let parameters: Option<Vec<Vec<&str>>> =
-                item.member("parameters").and_then(Json::list).and_then(|lists| lists.iter().map(Json::texts).collect());
+            let parameters: Option<Vec<Vec<&str>>> = item
+                .member("parameters")
+                .and_then(Json::list)
+                .and_then(|lists| lists.iter().map(Json::texts).collect());
             let parameters = parameters.ok_or_else(|| shape(at))?;
             let Some(template) = known.get(template) else {
                 return refuse(4, format!("unknown template, constraint {at}"));
@@ -2249,7 +2249,8 @@ impl Checking {
 
     /// Goes over the traces that have one of both activities.
     fn of_two(&self, constraint: &Constraint) -> Checked {
-        let (mut firsts, mut seconds) = (&self.places[constraint.a as usize][..], &self.places[constraint.b as usize][..]);
+        let (mut firsts, mut seconds) =
+            (&self.places[constraint.a as usize][..], &self.places[constraint.b as usize][..]);
         let asks = constraint.template.asks();
         let mut row = Checked { activated: 0, fulfilled: 0, kept: self.lengths.len() as u64, broken: None };
         while let Some(trace) = firsts.first().into_iter().chain(seconds.first()).map(|place| place.trace).min() {
@@ -2379,7 +2380,8 @@ impl Rule {
     fn of(constraint: Constraint) -> Rule {
         let table = constraint.template.table();
         let is_left = |state: usize| table.next[state].iter().any(|to| *to as usize != state);
-        let letters = table.accepting.iter().enumerate().map(|(state, accepts)| letter(*accepts, is_left(state))).collect();
+        let letters =
+            table.accepting.iter().enumerate().map(|(state, accepts)| letter(*accepts, is_left(state))).collect();
         Rule { constraint, next: table.next, letters }
     }
 }
@@ -2422,7 +2424,8 @@ impl Monitor {
             let row = &whole.next[state * whole.width()..][..whole.width()];
             row.iter().any(|to| *to as usize != state)
         };
-        let letters = whole.accepting.iter().enumerate().map(|(state, accepts)| letter(*accepts, is_left(state))).collect();
+        let letters =
+            whole.accepting.iter().enumerate().map(|(state, accepts)| letter(*accepts, is_left(state))).collect();
         Ok(Monitor {
             names: model.places.into_iter().map(|(name, place)| (name, ranks[place as usize])).collect(),
             letters,
@@ -2544,7 +2547,11 @@ fn usage<T>(place: u8) -> Outcome<T> {
 /// 0 to 1 with at most 6 digits behind the point, in millionths.
 fn millionths(text: &str) -> Option<u64> {
     let (whole, digits) = text.split_once('.').unwrap_or((text, "0"));
-    if !matches!(whole, "0" | "1") || digits.is_empty() || digits.len() > 6 || !digits.bytes().all(|byte| byte.is_ascii_digit()) {
+    if !matches!(whole, "0" | "1")
+        || digits.is_empty()
+        || digits.len() > 6
+        || !digits.bytes().all(|byte| byte.is_ascii_digit())
+    {
         return None;
     }
     format!("{whole}{digits:0<6}").parse().ok().filter(|millionths| *millionths <= 1_000_000)
@@ -2603,9 +2610,12 @@ impl Words {
                     only_places = true;
                     continue;
                 }
-                Some(option) => match option.map_or(("", None), |word| word.split_once('=').map_or((word, None), |(a, b)| (a, Some(b)))) {
+                Some(option) => match option
+                    .map_or(("", None), |word| word.split_once('=').map_or((word, None), |(a, b)| (a, Some(b))))
+                {
                     (name, value) if known.contains(&name) => {
-                        let next = || words.next().map(String::as_str).filter(|next| *next == "-" || !next.starts_with('-'));
+                        let next =
+                            || words.next().map(String::as_str).filter(|next| *next == "-" || !next.starts_with('-'));
                         (Some(name), value.or_else(next))
                     }
                     _ => return usage(1),
@@ -2675,7 +2685,8 @@ fn run(words: &[String], out: &mut Out) -> Outcome<u8> {
 }
 
 fn main() -> ExitCode {
-    let words: Vec<String> = std::env::args().skip(1).collect();
+    let words: Result<Vec<String>, _> = std::env::args_os().skip(1).map(|word| word.into_string()).collect();
+    let Ok(words) = words else { return ExitCode::from(9) };
     let mut out = BufWriter::with_capacity(1 << 16, io::stdout().lock());
     match run(&words, &mut out) {
         Ok(status) => ExitCode::from(status),

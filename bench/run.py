@@ -1,9 +1,10 @@
 #!/usr/bin/env python3
 """Times built programs on logs made from seeds, side by side, and compares what they print.
 
-    python3 bench/run.py [PROGRAM ...] [--folder PATH] [--repeat N] [--only TABLE ...] [--write]
+    python3 bench/run.py [PROGRAM ...] [--ordinary] [--folder PATH] [--repeat N] [--only TABLE ...] [--write]
 
-Without a PROGRAM it's the one that is built here. The logs are made in the folder (about 130 MB, in /tmp by default) and
+Without a PROGRAM it's the one that is built here. With --ordinary the plain program bench/ordinary.rs is compiled and
+stands beside them as the last one, and each row says how many times its seconds the program before it takes. The logs are made in the folder (about 130 MB, in /tmp by default) and
 used again by the next run. Each row has for each program the processor seconds of the child (user), the least of
 the repeated runs, and its peak memory in MB. The first run of each isn't timed: its status, its output and
 its line of refusal are compared with those of the first program. Where they differ the row says so, and the script ends
@@ -25,6 +26,7 @@ from dataclasses import dataclass
 
 HERE = os.path.dirname(os.path.abspath(__file__))
 BUILT = os.path.join(HERE, "..", "crates", "minerful", "out", "minerful")
+ORDINARY = os.path.join(HERE, "ordinary.rs")
 LETTERS = b"abcdefghijklmnopqrstuvwxyz"
 LIMIT = "300"
 USAGE = 2
@@ -293,6 +295,37 @@ TITLES = {
 }
 
 
+# Programs
+
+
+@dataclass
+class Programs:
+    """The paths of those that run side by side; whether the last one is the ordinary program."""
+
+    paths: list
+    ordinary: bool
+
+    def marks(self):
+        """What the heading of a table calls each."""
+        numbered = [f" {number}" if len(self.paths) > 1 + self.ordinary else "" for number in range(1, len(self.paths) + 1)]
+        return [*numbered[:-1], " ordinary"] if self.ordinary else numbered
+
+    def ratio(self, seconds):
+        """How many times the seconds of the ordinary program the one before it takes, where both have some."""
+        if not self.ordinary:
+            return []
+        *_, own, ordinary = seconds
+        return [f"{own / ordinary:.2f}" if own and ordinary else "-"]
+
+
+def programs_of(given):
+    paths = [os.path.abspath(program) for program in given.programs or [BUILT]]
+    if given.ordinary:
+        paths.append(os.path.join(os.path.abspath(given.folder), "ordinary"))
+        subprocess.run(["rustc", "-O", "-o", paths[-1], ORDINARY], check=True)
+    return Programs(paths, given.ordinary)
+
+
 # Runs
 
 ENVIRONMENT = dict(os.environ, LC_ALL="C.UTF-8")
@@ -345,10 +378,9 @@ def row(*cells):
 
 def head(programs):
     names = ["log", "command"]
-    for number in range(1, len(programs) + 1):
-        mark = f" {number}" if len(programs) > 1 else ""
+    for mark in programs.marks():
         names += [f"user s{mark}", f"peak MB{mark}"]
-    names += ["ends"] + ["the same"] * (len(programs) > 1)
+    names += ["ratio"] * programs.ordinary + ["ends"] + ["the same"] * (len(programs.paths) > 1)
     return [row(*names), row(*["---"] * len(names))]
 
 
@@ -369,18 +401,27 @@ def in_folder(words, folder):
     return [os.path.join(folder, word) if word in LOGS else word for word in words]
 
 
+def ending(results):
+    """That of the last that knows the words."""
+    known = [result for result in results if result.status != USAGE]
+    return outcome((known or results)[-1])
+
+
 def measured_row(programs, name, words, given):
     with_paths = in_folder([*words, name], given.folder)
-    results = [printed([program, *with_paths]) for program in programs]
-    cells = []
-    for program, result in zip(programs, results):
+    results = [printed([program, *with_paths]) for program in programs.paths]
+    cells, taken = [], []
+    for program, result in zip(programs.paths, results):
         if result.status in (USAGE, 124):
             cells += ["-", "-"]
+            taken.append(None)
         else:
             seconds, peak = best([program, *with_paths], given.folder, given.repeat)
             cells += [f"{seconds:.3f}", f"{peak:.1f}"]
-    same = [compared(results)] if len(programs) > 1 else []
-    return row(name, " ".join(words), *cells, outcome(results[-1]), *same), "NO" not in same
+            taken.append(seconds)
+    same = [compared(results)] if len(results) > 1 else []
+    cells += programs.ratio(taken)
+    return row(name, " ".join(words), *cells, ending(results), *same), "NO" not in same
 
 
 def known_rows(programs, rows, folder):
@@ -390,7 +431,7 @@ def known_rows(programs, rows, folder):
         asked = tuple(words[:3])
         if asked not in known:
             on_nothing = in_folder([*words, os.devnull], folder)
-            known[asked] = any(printed([program, *on_nothing]).status != USAGE for program in programs)
+            known[asked] = any(printed([program, *on_nothing]).status != USAGE for program in programs.paths)
         if known[asked]:
             yield name, words
 
@@ -448,6 +489,7 @@ def page(lines, given, began, load_before):
 def options():
     words = argparse.ArgumentParser(description=__doc__, formatter_class=argparse.RawDescriptionHelpFormatter)
     words.add_argument("programs", nargs="*", metavar="PROGRAM")
+    words.add_argument("--ordinary", action="store_true", help="beside them the plain program bench/ordinary.rs")
     words.add_argument("--folder", default="/tmp/minerful-bench")
     words.add_argument("--repeat", type=int, default=3)
     words.add_argument("--only", nargs="+", choices=list(TABLES), default=list(TABLES))
@@ -457,10 +499,10 @@ def options():
 
 def main():
     given = options()
-    programs = [os.path.abspath(program) for program in given.programs or [BUILT]]
     make(given.folder)
+    programs = programs_of(given)
     began, load_before = datetime.datetime.now(datetime.timezone.utc), load()
-    for number, program in enumerate(programs, 1):
+    for number, program in enumerate(programs.paths, 1):
         print(f"{number}: {program}")
     lines, all_same = tables(programs, given)
     if given.write:

@@ -51,34 +51,13 @@ fn write_fault(_: io::Error) -> Refusal {
 
 // Templates
 
+#[rustfmt::skip]
 #[derive(Clone, Copy, PartialEq, Eq, Hash, Debug)]
 enum Template {
-    Init,
-    End,
-    Participation,
-    AtMostOne,
-    ChainSuccession,
-    AlternateSuccession,
-    Succession,
-    CoExistence,
-    ChainResponse,
-    AlternateResponse,
-    Response,
-    ChainPrecedence,
-    AlternatePrecedence,
-    Precedence,
-    RespondedExistence,
-    NotCoExistence,
-    NotSuccession,
-    NotChainSuccession,
-    Exactly(u8),
-    AtLeast(u8),
-    AtMost(u8),
-    NotRespondedExistence,
-    NotResponse,
-    NotPrecedence,
-    NotChainResponse,
-    NotChainPrecedence,
+    Init, End, Participation, AtMostOne, ChainSuccession, AlternateSuccession, Succession, CoExistence, ChainResponse,
+    AlternateResponse, Response, ChainPrecedence, AlternatePrecedence, Precedence, RespondedExistence, NotCoExistence,
+    NotSuccession, NotChainSuccession, Exactly(u8), AtLeast(u8), AtMost(u8), NotRespondedExistence, NotResponse,
+    NotPrecedence, NotChainResponse, NotChainPrecedence,
 }
 
 use Template::*;
@@ -382,6 +361,45 @@ fn repeats(count: u32) -> u32 {
     count - u32::from(count != 0)
 }
 
+// What an event, or the end of a trace, adds to whole rows. These are functions of their own so that the compiler knows
+// that the rows are apart, and takes several places at once.
+
+#[inline(never)]
+fn add_first(counts: &[u32], seen: &mut [u32], later: &mut [u32], leading: &mut [u32]) {
+    for (((count, seen), later), leading) in counts.iter().zip(seen).zip(later).zip(leading) {
+        *leading += count;
+        *later += repeats(*count);
+        *seen = *count;
+    }
+}
+
+#[inline(never)]
+fn add_next(counts: &[u32], seen: &mut [u32], later: &mut [u32], earlier: &mut [u32]) {
+    for (((count, seen), later), earlier) in counts.iter().zip(seen).zip(later).zip(earlier) {
+        let repeated = repeats(count - *seen);
+        *later += repeated;
+        *earlier += repeated;
+        *seen = *count;
+    }
+}
+
+#[inline(never)]
+fn add_last(counts: &[u32], seen: &[u32], trailing: &mut [u32], earlier: &mut [u32]) {
+    for (((count, seen), trailing), earlier) in counts.iter().zip(seen).zip(trailing).zip(earlier) {
+        *trailing += count - seen;
+        *earlier += repeats(count - seen);
+    }
+}
+
+#[inline(never)]
+fn add_beside(counts: &[u32], seen: &mut [u32], beside: &mut [u32], together: &mut [u32]) {
+    for (((count, seen), beside), together) in counts.iter().zip(seen).zip(beside).zip(together) {
+        *beside += count;
+        *together += u32::from(*count != 0);
+        *seen = 0;
+    }
+}
+
 impl Counters {
     /// Makes room for so many activities.
     fn grow(&mut self, activities: usize) {
@@ -451,23 +469,11 @@ impl Counters {
             self.present = present;
         } else {
             let counts = &self.counts[..row.len()];
-            let seen = &mut self.seen[row.clone()];
-            let later = &mut self.rep_later[row.clone()];
+            let (seen, later) = (&mut self.seen[row.clone()], &mut self.rep_later[row.clone()]);
             if is_first {
-                let leading = &mut self.leading[row];
-                for (((count, seen), later), leading) in counts.iter().zip(seen).zip(later).zip(leading) {
-                    *leading += count;
-                    *later += repeats(*count);
-                    *seen = *count;
-                }
+                add_first(counts, seen, later, &mut self.leading[row]);
             } else {
-                let earlier = &mut self.rep_earlier[row];
-                for (((count, seen), later), earlier) in counts.iter().zip(seen).zip(later).zip(earlier) {
-                    let repeated = repeats(count - *seen);
-                    *later += repeated;
-                    *earlier += repeated;
-                    *seen = *count;
-                }
+                add_next(counts, seen, later, &mut self.rep_earlier[row]);
             }
         }
         if is_first {
@@ -494,21 +500,13 @@ impl Counters {
             } else {
                 let row = start..start + self.unary.len().next_multiple_of(8);
                 let counts = &self.counts[..row.len()];
-                let seen = &mut self.seen[row.clone()];
-                let trailing = &mut self.trailing[row.clone()];
-                let earlier = &mut self.rep_earlier[row.clone()];
-                let beside = &mut self.beside[row.clone()];
-                let together = &mut self.together[row];
-                for (((((count, seen), trailing), earlier), beside), together) in
-                    counts.iter().zip(seen).zip(trailing).zip(earlier).zip(beside).zip(together)
-                {
-                    let since = count - *seen;
-                    *seen = 0;
-                    *trailing += since;
-                    *earlier += repeats(since);
-                    *beside += count;
-                    *together += u32::from(*count != 0);
-                }
+                add_last(
+                    counts,
+                    &self.seen[row.clone()],
+                    &mut self.trailing[row.clone()],
+                    &mut self.rep_earlier[row.clone()],
+                );
+                add_beside(counts, &mut self.seen[row.clone()], &mut self.beside[row.clone()], &mut self.together[row]);
             }
         }
         for &event in &present {

@@ -32,6 +32,9 @@ OUT_OF_MEMORY = b"minerful: out of memory\n"
 # No run asks for so many allocations.
 LAST = 2**62
 
+# As long as a run may take, in seconds. Each takes a moment; a busy machine shall fail none.
+PATIENCE = 300
+
 LIBRARY = r"""
 #include <errno.h>
 #include <stdlib.h>
@@ -102,7 +105,7 @@ class Program:
         reader, writer = os.pipe()
         env = {"LD_PRELOAD": self.library, "FIRST": str(first), "LAST": str(last), "TELL": str(writer)}
         streams = {"stdin": subprocess.DEVNULL, "stdout": subprocess.PIPE, "stderr": subprocess.PIPE}
-        given = {"cwd": self.folder, "env": env, "pass_fds": [writer], "timeout": 60}
+        given = {"cwd": self.folder, "env": env, "pass_fds": [writer], "timeout": PATIENCE}
         try:
             done = subprocess.run([self.path, *words], check=False, **streams, **given)
         finally:

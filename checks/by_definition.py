@@ -8,8 +8,8 @@ over whole logs, and by trying all short traces. Nothing is taken from the progr
 checks/cases.py and checks/model_cases.py. At the end it says how many runs tried what, how often each refusal came,
 and what was not tried.
 
-Ends with 0 where all runs are as defined, and with 1 at the first that is not, which it prints. It needs Linux, for
-inputs that are cut or fail, and prlimit, for outputs that fail.
+Ends at the first run that is not as defined, which it prints, or behind the last one: with 'N passed, M failed' alone on
+a line, and with 1 where one failed. It needs Linux, for inputs that are cut or fail, and prlimit, for outputs that fail.
 """
 
 import argparse
@@ -200,7 +200,7 @@ def summary(definitions, tried, refused):
     print(f"{none - undecided:>8}  where both find none, and traces of that length reach all that can be reached")
     print(f"{undecided:>8}  decided by the automaton alone, since longer traces would have to be tried")
     print(NOT_TRIED)
-    print(f"{sum(tried.values())} runs, no difference")
+    print(f"{sum(tried.values())} passed, 0 failed")
 
 
 def options():
@@ -224,6 +224,7 @@ def main():
         parts = differences(found, outcome, case)
         if parts:
             show(case, found, outcome, parts)
+            print(f"{sum(tried.values())} passed, 1 failed")
             return 1
         tried[case.tries] += 1
         refused[outcome.refusal] += 1

@@ -8,6 +8,9 @@ knows docs/DEFINITIONS.md alone; its report has to be that of `mine`. Then every
 by one, each member of its form is left out or replaced, and both have to say the same of all of them: the same refusal, or
 the same check and item. Where both still say yes of a changed one, the sentence that a yes stands for is tried on all
 short traces.
+
+Ends at the first that isn't so, which it prints, or behind the last one: with 'N passed, M failed' alone on a line, and
+with 1 where one failed.
 """
 
 import argparse
@@ -116,15 +119,19 @@ def certificate(program, log, words):
     return value
 
 
+def fail(tried, why):
+    print(why)
+    print(f"{sum(tried.values())} passed, 1 failed")
+    sys.exit(1)
+
+
 def compared(program, folder, tried, what, value, most):
     data = json.dumps(value, ensure_ascii=False).encode()
     found, wanted = verified(program, folder, data), by_definition(data)
     if found != wanted:
-        print(f"differs, {what}: {found} and by definition {wanted}\n{data.decode()}")
-        sys.exit(1)
+        fail(tried, f"differs, {what}: {found} and by definition {wanted}\n{data.decode()}")
     if found[0] == 0 and not sentence_holds(data, most):
-        print(f"yes, and its sentence doesn't hold, {what}\n{data.decode()}")
-        sys.exit(1)
+        fail(tried, f"yes, and its sentence doesn't hold, {what}\n{data.decode()}")
     tried[what, found[1].decode().split(",")[0].strip() or found[2].decode().strip()] += 1
 
 

@@ -125,6 +125,9 @@ def opened(path, number, folder):
 
 NUMBERS = {"stdin": 0, "stdout": 1, "stderr": 2}
 
+# As long as a run may take, in seconds. Each takes a moment; a busy machine shall fail none.
+PATIENCE = 300
+
 
 def result_of(program, run, folder):
     """The status, standard output and standard error. An output that fails counts as empty."""
@@ -138,7 +141,7 @@ def result_of(program, run, folder):
 
     made = subprocess.Popen([program, *run.words], cwd=folder, preexec_fn=close, **(given | streams))
     try:
-        out, err = made.communicate(timeout=60)
+        out, err = made.communicate(timeout=PATIENCE)
     except subprocess.TimeoutExpired:
         made.kill()
         out, err = made.communicate()

@@ -5,7 +5,8 @@
 
 Hands it one line at a time and waits for the answer before the next. Some lines come in two pieces. Then a line without a tab
 ends the run, and what was answered before stands. Then as many cases as a run may have, and one more. Ends with
-'N passed, M failed' alone on a line, and with 1 where some failed.
+'N passed, M failed' alone on a line, and with 1 where some failed. A line that isn't answered is waited for two minutes,
+so that a busy machine fails nothing, and those behind it aren't tried.
 """
 
 import argparse
@@ -35,7 +36,7 @@ ANSWERED = [
 ]
 
 # As long as an answer may take, in seconds.
-PATIENCE = 20
+PATIENCE = 120
 
 MOST_CASES = 1_048_575
 
@@ -55,7 +56,11 @@ def one_by_one(program, model):
         cut = number % len(data)
         for piece in [data[:cut], data[cut:]]:
             running.stdin.write(piece)
-        yield f"line {number + 1}", answer(running.stdout), wanted
+        found = answer(running.stdout)
+        yield f"line {number + 1}", found, wanted
+        if found is None:
+            running.kill()
+            return
     out, err = running.communicate(b"18 ship\n")
     yield "what a line without a tab leaves", (running.returncode, out, err), (3, b"", b"minerful: line 8 has no tab\n")
 

@@ -5,7 +5,8 @@
 Runs the command blocks of the tutorial one after the other in one shell, whose folder is the root of the repository.
 A block of output that stands right behind a command block has to be what that block printed, on both outputs. A
 command block without one has to end with status 0. The blocks that build the program are left out: it has to stand
-there. With --program another one takes its place.
+there. With --program another one takes its place. In place of /tmp stands a folder of its own, so that files which are
+there, and other runs, change nothing.
 
 With --write the output blocks get what was printed; read the change before it is committed. Prints what differs, and
 ends with 1 where something does. It needs bash and jq.
@@ -17,6 +18,7 @@ import re
 import shlex
 import subprocess
 import sys
+import tempfile
 from dataclasses import dataclass
 
 ROOT = os.path.join(os.path.dirname(os.path.abspath(__file__)), "..")
@@ -26,6 +28,9 @@ BLOCK = re.compile(r"^```sh\n(?P<commands>.*?)^```\n(?:\n```\n(?P<output>.*?)^``
 
 # What a block must not name to be run: it would prove and build.
 BUILDS = "rt run"
+
+# The folder that the blocks write to.
+WRITES_TO = "/tmp/"
 
 # Between what two blocks print, with the status of the one before.
 MARK = "\x1e"
@@ -57,14 +62,15 @@ def blocks_of(text):
     return [block for block in found if BUILDS not in block.commands]
 
 
-def run(blocks, program):
+def run(blocks, program, folder):
     """Runs all blocks in one shell, so that each finds the names and files of those before it."""
     with_program = f"minerful={shlex.quote(os.path.abspath(program))}\n" if program else ""
     script = "exec 2>&1\n"
     for block in blocks:
-        script += f"{block.commands}printf '{MARK}%s{MARK}' $?\n{with_program}"
+        commands = block.commands.replace(WRITES_TO, f"{folder}/")
+        script += f"{commands}printf '{MARK}%s{MARK}' $?\n{with_program}"
     done = subprocess.run(["bash", "-c", script], cwd=ROOT, stdin=subprocess.DEVNULL, stdout=subprocess.PIPE, check=True)
-    told = done.stdout.decode().split(MARK)
+    told = done.stdout.decode().replace(f"{folder}/", WRITES_TO).split(MARK)
     for block, printed, status in zip(blocks, told[0::2], told[1::2], strict=False):
         block.printed, block.status = printed, int(status)
 
@@ -86,7 +92,8 @@ def main():
     with open(TUTORIAL, encoding="utf-8") as file:
         text = file.read()
     blocks = blocks_of(text)
-    run(blocks, given.program)
+    with tempfile.TemporaryDirectory() as folder:
+        run(blocks, given.program, folder)
     faults = [(block, fault) for block in blocks if (fault := block.fault())]
     for block, fault in faults:
         print(f"The block at line {block.line} {fault}")

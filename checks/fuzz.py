@@ -1,11 +1,12 @@
-"""Runs the built program on random bytes, on logs and models with some bytes changed, and on random words.
+"""Runs the built program on random bytes, on inputs of each kind with some bytes changed, and on random words.
 
     python3 checks/fuzz.py [--program PATH] [--seed N] [--count N] [--seconds N] [--megabytes N]
 
-What comes out isn't looked up in the definitions: that is what checks/by_definition.py does. Here every run has to end
-as the table of README says. The status is one of the table, and 1 only of `check`. At 0 and 1 standard error is empty.
-At any other status standard output is empty, and standard error has exactly one line, which is that status's (none at
-9, which comes only of words that are no text). No run ends by a signal, takes more processor seconds than `--seconds`,
+Logs, models, certificates and running cases are changed. What comes out isn't looked up in the definitions: that is what
+checks/by_definition.py does. Here every run has to end as the table of README says. The status is one of the table, and
+1 only of a command that can answer no. At 0 and 1 standard error is empty. At any other status standard output is empty
+(of `monitor` it has whole lines), and standard error has exactly one line, which is that status's (none at 9, which
+comes only of words that are no text). No run ends by a signal, takes more processor seconds than `--seconds`,
 or more memory than `--megabytes`; out of memory (8) doesn't come within these.
 
 The same seed and count give the same runs. Prints each run that fails, with its words and inputs, and at the end how
@@ -35,6 +36,9 @@ for code, text in STATUSES.values():
     LINES.setdefault(code, []).append(re.compile(f"minerful: {text.replace('{}', '[0-9]+')}\n".encode()))
 
 NO_TEXT = 9
+
+# The commands that end with 1 where the answer is no.
+SAY_NO = [b"check", b"compare", b"verify", b"regex"]
 
 
 @dataclass
@@ -66,10 +70,11 @@ MODELS = [
     b'{"constraints":[],"x":' + b"[" * 120 + b"]" * 120 + b"}",
     '{"constraints":[{"parameters":[["\\u00e9"]],"template":"AtMostOne","x":-1.5e300}],"events":3}'.encode(),
 ]
+EVENTS = [b"1\ta\n2\tb\r\n1\tb\n\n", "\tr\né x\ts\np\tp\tp\n".encode(), b"1\ta\n" * 40]
 TOKENS = [
     b"[", b"]", b"{", b"}", b'"', b",", b":", b"\\u", b"\\", b"null", b"1e999", b"-", b"2", b'"a"', b"\n", b"\r",
     b"\x00", b"\xff", b"\xc3", b"\xed\xa0\x80", b"\xef\xbb\xbf", b'"constraints"', b'"template"', b'["a"]',
-    b"18446744073709551616", b"case,activity", b'""',
+    b"18446744073709551616", b"case,activity", b'""', b"\t", b'"chain"',
 ]
 
 
@@ -98,6 +103,19 @@ def some_model(chance):
     return chance.choice([random_bytes(chance), *(changed(chance, chance.choice(MODELS)) for _ in range(3))])
 
 
+def some_events(chance):
+    return chance.choice([random_bytes(chance), *(changed(chance, chance.choice(EVENTS)) for _ in range(3))])
+
+
+# What the program prints as certificates, which `main` asks for once.
+CERTIFICATES = []
+CERTIFIED = [b"ab\nab\na\n", example("orders.txt")]
+
+
+def some_certificate(chance):
+    return changed(chance, chance.choice(CERTIFICATES))
+
+
 # Words.
 
 VALUES = {
@@ -111,13 +129,14 @@ VALUES = {
     "interest": ["0", "0.1"],
     "max-states": ["1", "5", "100"],
     "stage": ["model", "consistent", "scores"],
-    "out": ["json", "table"],
+    "out": ["json", "table", "cert"],
     "seed": ["0", "4294967295"],
     "traces": ["0", "3", "1048575"],
     "length": ["1", "10", "1000"],
     "letters": ["1", "26"],
     "repertoire": ["1", "2"],
     "on-limit": ["stop", "keep"],
+    "first": ["0", "3", "20"],
 }
 
 
@@ -126,7 +145,8 @@ def good_words(chance, command, *places):
     names = chance.sample(COMMANDS[command][0], chance.randint(0, min(4, len(COMMANDS[command][0]))))
     words = [command, *places, *(f"--{name}={chance.choice(VALUES[name])}" for name in names)]
     # Else a log of many characters has long lists, with many states.
-    return words + ["--max-states=100"] * (command == "mine" and "max-states" not in names)
+    has_limit = "max-states" in COMMANDS[command][0] and "max-states" not in names
+    return words + ["--max-states=100"] * has_limit
 
 
 def random_word(chance):
@@ -155,11 +175,26 @@ def on_a_model(chance):
     return Run(good_words(chance, "check", "model"), log, {"model": some_model(chance)})
 
 
+def on_models(chance):
+    """Compared, or one of them analysed."""
+    words = good_words(chance, *chance.choice([["compare", "model", "other"], ["analyse", "model"]]))
+    return Run(words, b"", {"model": some_model(chance), "other": some_model(chance)})
+
+
+def on_running_cases(chance):
+    model = chance.choice([chance.choice(MODELS), some_model(chance)])
+    return Run(good_words(chance, "monitor", "model"), some_events(chance), {"model": model})
+
+
+def on_a_certificate(chance):
+    return Run(["verify", "-"], some_certificate(chance))
+
+
 def on_words(chance):
     return Run(random_words(chance), chance.choice(LOGS), {"log": b"ab\n", "model": MODELS[0]})
 
 
-MAKERS = [on_a_log, on_a_log, on_a_model, on_a_model, on_words]
+MAKERS = [on_a_log, on_a_log, on_a_model, on_models, on_running_cases, on_a_certificate, on_words]
 
 
 # What a run does.
@@ -200,6 +235,12 @@ def is_text(word):
     return data.decode("utf-8", "ignore").encode() == data
 
 
+def is_left_behind(run, out):
+    """Whether this may stand on standard output where a run is refused: nothing, or of `monitor` whole lines."""
+    is_monitor = run.words[:1] and os.fsencode(run.words[0]) == b"monitor"
+    return not out or (is_monitor and out.endswith(b"\n"))
+
+
 def faults_of(run, result, megabytes):
     """What isn't as the table says."""
     texts = all(map(is_text, run.words))
@@ -208,8 +249,8 @@ def faults_of(run, result, megabytes):
     elif result.status in (0, 1):
         if result.err:
             yield "standard error isn't empty"
-        if result.status == 1 and os.fsencode(run.words[0]) != b"check":
-            yield "status 1 of another command than check"
+        if result.status == 1 and os.fsencode(run.words[0]) not in SAY_NO:
+            yield "status 1 of a command that doesn't say no"
     elif result.status == NO_TEXT:
         if result.err or texts:
             yield "status 9 with a line, or of words that are text"
@@ -217,7 +258,7 @@ def faults_of(run, result, megabytes):
         yield f"status {result.status} isn't one that can come"
     elif not any(line.fullmatch(result.err) for line in LINES[result.status]):
         yield f"standard error isn't one line of status {result.status}"
-    if result.status not in (0, 1) and result.out:
+    if result.status not in (0, 1) and not is_left_behind(run, result.out):
         yield "standard output isn't empty"
     if not texts and result.status != NO_TEXT:
         yield "words that are no text, and another status than 9"
@@ -250,6 +291,7 @@ def main():
     given = options()
     program, chance = os.path.abspath(given.program), random.Random(given.seed)
     statuses, failed = Counter(), 0
+    CERTIFICATES.extend(result_of(program, Run(["mine", "--out", "cert"], log), given.seconds).out for log in CERTIFIED)
     for number in range(1, given.count + 1):
         run = chance.choice(MAKERS)(chance)
         result = result_of(program, run, given.seconds)

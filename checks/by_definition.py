@@ -14,6 +14,7 @@ a line, and with 1 where one failed. It needs Linux, for inputs that are cut or 
 
 import argparse
 import contextlib
+import json
 import os
 import random
 import socket
@@ -26,6 +27,7 @@ from collections import Counter
 import cases
 import further_cases
 import model_cases
+from defined.certificates import certificate_of, verdict
 from defined.outcome import Definitions, Input, Outcome
 from defined.refusals import STATUSES, Refused
 
@@ -144,9 +146,19 @@ def read_file(path):
 # The comparison
 
 
+def is_certificate_of(found, report):
+    """Whether this is a certificate of the report, on which the second checker says yes."""
+    try:
+        return json.loads(found)["report"] == json.loads(report) and verdict(certificate_of(found)) is None
+    except (ValueError, KeyError, Refused):
+        return False
+
+
 def is_as_wanted(part, found, outcome, case):
-    """The same; of an output that fails, a prefix."""
+    """The same; of an output that fails, a prefix; of a certificate, one that is right."""
     whole = getattr(outcome, part)
+    if part == "out" and outcome.certifies:
+        return is_certificate_of(found, whole)
     if part == case.short and len(whole) > case.room:
         return whole.startswith(found)
     return found == whole

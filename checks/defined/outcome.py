@@ -30,12 +30,16 @@ class Input:
 
 @dataclass
 class Outcome:
-    """The exit status, what stands on standard output and on standard error, and the name of a refusal."""
+    """The exit status, what stands on standard output and on standard error, and the name of a refusal.
+
+    Where a certificate is asked for, its report stands for it: a report has more than one chain.
+    """
 
     status: int
     out: bytes
     err: bytes
     refusal: str = ""
+    certifies: bool = False
 
 
 def ranked(named):
@@ -57,8 +61,9 @@ class Definitions:
         """`read` gives an Input by its name, or None where it can't be opened or not be read at all."""
         written = []
         try:
-            status, text = self.answer(settings(words), read, written)
-            return Outcome(status, text, b"")
+            given = settings(words)
+            status, text = self.answer(given, read, written)
+            return Outcome(status, text, b"", certifies=given["out"] == "cert")
         except Refused as refused:
             return Outcome(refused.status, b"".join(written), refused.line, refused.told)
 

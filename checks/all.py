@@ -48,14 +48,10 @@ class Check:
     runs_program: bool = True
 
 
-# The longest first, so that none is left to run alone at the end.
+# Those of a few seconds first, and then the longest, so that none of these is left to run alone at the end.
 CHECKS = [
-    Check(["by_definition.py", "--no-limits"], "runs that are as defined", needs=("prlimit",)),
-    Check(["certificates.py"], "certificates verified, as made and changed"),
-    Check(["expressions.py"], "words looked up in the templates' expressions"),
-    Check(["allocations.py"], "runs with too little memory", needs=(os.environ.get("CC", "cc"),)),
-    Check(["fuzz.py"], "runs on random bytes and words"),
-    Check(["piped.py"], "lines of a pipe answered one by one"),
+    Check(["documents.py"], "refusals in the documents", r"^(?P<passed>\d+) refusals, and all clauses", runs_program=False),
+    Check(["reading_list.py"], "files to read", r" in (?P<passed>\d+) files$", runs_program=False),
     Check(["faults.py"], "runs with an input or output that fails"),
     Check(
         ["tutorial.py"],
@@ -63,8 +59,12 @@ CHECKS = [
         r"^(?P<tried>\d+) blocks were run, .*; (?P<failed>\d+) differ$",
         ("bash", "jq", "iconv"),
     ),
-    Check(["documents.py"], "refusals in the documents", r"^(?P<passed>\d+) refusals, and all clauses", runs_program=False),
-    Check(["reading_list.py"], "files to read", r" in (?P<passed>\d+) files$", runs_program=False),
+    Check(["by_definition.py", "--no-limits"], "runs that are as defined", needs=("prlimit",)),
+    Check(["expressions.py"], "words looked up in the templates' expressions"),
+    Check(["certificates.py"], "certificates verified, as made and changed"),
+    Check(["allocations.py"], "runs with too little memory", needs=(os.environ.get("CC", "cc"),)),
+    Check(["fuzz.py"], "runs on random bytes, changed inputs and random words"),
+    Check(["piped.py"], "lines of a pipe answered one by one"),
 ]
 
 

@@ -21,6 +21,7 @@ use Rattle.log_columns.specs.declared.OrderAs.{OrderAs}
 use Rattle.log_columns.specs.declared.OrderAs.TheVariants as by
 use Rattle.csv_log.specs.declared.collect.Collected.{Collected}
 use Rattle.csv_log.specs.declared.kept.Kept.{Kept}
+use Rattle.csv_log.specs.declared.keys.Keys.{Keys}
 use Rattle.csv_log.specs.CsvLog.{Event, in_order, is_before, log_of_events, trace_of}
 use Rattle.csv_log.specs.Kept.{Collects, IsInside, IsLogOf, Seen, is_less, is_of_case, read_back, seen_less, seen_of}
 use Rattle.csv_log.specs.Sorting.{insert_sorted, stably_sorted}
@@ -102,9 +103,9 @@ trace_of-seen order_as case (event ∷ events) = go (bytes_eq case event.case) (
     go true h = ap (λ l. event.activity ∷ l) h
     go false h = h
 
-module _ (cases activities : List (List ℕ)) (texts : List ℕ) (once : StandOnce cases) where
+module _ (cases activities : List (List ℕ)) (keys : Keys) (once : StandOnce cases) where
   abbrev back : Kept → Seen
-  back = read_back cases activities texts
+  back = read_back cases activities keys
 
   abbrev name : ℕ → List ℕ
   name id = get_or activities id []
@@ -142,7 +143,7 @@ module _ (cases activities : List (List ℕ)) (texts : List ℕ) (once : StandOn
 
 -- ---- all of it
 
-module _ (columns : Columns) (limits : Limits) (events : List Event) (all : Collected) (h : Collects columns.order_as limits events all) where
+module _ (columns : Columns) (limits : Limits) (events : List Event) (all : Collected) (h : Collects columns limits events all) where
   abbrev names : List (List ℕ)
   names = all.activities.names
 
@@ -153,21 +154,21 @@ module _ (columns : Columns) (limits : Limits) (events : List Event) (all : Coll
   once_cases = subst StandOnce (sym h.cases) (first_seen-once (map (λ e. e.case) events))
 
   abbrev sorted : Bool → List Kept
-  sorted ordered = if ordered then stably_sorted (is_less all.texts.items) all.events.items else all.events.items
+  sorted ordered = if ordered then stably_sorted (is_less all.keys) all.events.items else all.events.items
 
-  sorted-seen : (order : Option (List ℕ)) → map (read_back all.cases.names names all.texts.items) (sorted (is_some order)) ≡ map (seen_of columns.order_as) (in_order order columns.order_as events)
+  sorted-seen : (order : Option (List ℕ)) → map (read_back all.cases.names names all.keys) (sorted (is_some order)) ≡ map (seen_of columns.order_as) (in_order order columns.order_as events)
   sorted-seen None = h.read
   sorted-seen (Some column) =
-      map-stably_sorted (read_back all.cases.names names all.texts.items) (is_less all.texts.items) seen_less (λ a b. refl) all.events.items
+      map-stably_sorted (read_back all.cases.names names all.keys) (is_less all.keys) seen_less (λ a b. refl) all.events.items
       ∙ ap (stably_sorted seen_less) h.read
       ∙ sym (map-stably_sorted (seen_of columns.order_as) (is_before columns.order_as) seen_less (same_order columns.order_as) events)
 
   cases_inside : AllByRecursion inside_case all.events.items
   cases_inside = recursion_from_All inside_case all.events.items
-      (All-weaker (IsInside (length all.cases.names) (length names) (length all.texts.items)) inside_case (λ kept k. k.case) all.events.items h.inside)
+      (All-weaker (IsInside (length all.cases.names) (length names) (length all.events.items)) inside_case (λ kept k. k.case) all.events.items h.inside)
 
   sorted_inside : (ordered : Bool) → AllByRecursion inside_case (sorted ordered)
-  sorted_inside true = All-stably_sorted inside_case (is_less all.texts.items) all.events.items cases_inside
+  sorted_inside true = All-stably_sorted inside_case (is_less all.keys) all.events.items cases_inside
   sorted_inside false = cases_inside
 
   abbrev traces_of : Bool → List (List ℕ)
@@ -177,7 +178,7 @@ module _ (columns : Columns) (limits : Limits) (events : List Event) (all : Coll
   named-is =
       map-map (λ case. map (λ kept. kept.activity) (filter (is_of_case case) (sorted (is_some columns.order)))) (map (λ id. get_or names id [])) (range_with_len 0 (length all.cases.names))
       ∙ map-range _ (λ i. trace_of (in_order columns.order columns.order_as events) (get_or all.cases.names i [])) 0 (length all.cases.names)
-      (λ i inside. trace_of-kept all.cases.names names all.texts.items once_cases i (sorted (is_some columns.order)) (omega arith) (sorted_inside (is_some columns.order))
+      (λ i inside. trace_of-kept all.cases.names names all.keys once_cases i (sorted (is_some columns.order)) (omega arith) (sorted_inside (is_some columns.order))
       ∙ ap (trace_seen (get_or all.cases.names i [])) (sorted-seen columns.order)
       ∙ sym (trace_of-seen columns.order_as (get_or all.cases.names i []) (in_order columns.order columns.order_as events)))
       ∙ each-place (trace_of (in_order columns.order columns.order_as events)) [] [] all.cases.names
@@ -189,7 +190,7 @@ module _ (columns : Columns) (limits : Limits) (events : List Event) (all : Coll
         All-same (λ (id : ℕ). id < length names) (events_of log.traces) (map (λ kept. kept.activity) moved) flat
         (All-map (λ (id : ℕ). id < length names) (λ (kept : Kept). kept.activity) moved
         (All-permutation (λ (kept : Kept). kept.activity < length names) all.events.items moved same
-        (All-weaker (IsInside (length all.cases.names) (length names) (length all.texts.items)) (λ (kept : Kept). kept.activity < length names) (λ kept k. k.activity) all.events.items h.inside)))
+        (All-weaker (IsInside (length all.cases.names) (length names) (length all.events.items)) (λ (kept : Kept). kept.activity < length names) (λ kept k. k.activity) all.events.items h.inside)))
 
     events_of-named : (ids : List (List ℕ)) → events_of (named names ids) ≡ map (λ id. get_or names id []) (events_of ids)
     events_of-named [] = refl
@@ -201,7 +202,7 @@ module _ (columns : Columns) (limits : Limits) (events : List Event) (all : Coll
         ap (λ l. has_name l name) (events_of-named log.traces ∙ ap (map (λ id. get_or names id [])) flat ∙ map-map (λ kept. kept.activity) (λ id. get_or names id []) moved)
         ∙ any-map (bytes_eq name) (λ kept. get_or names kept.activity []) moved
         ∙ sym (list_any-IsPermutation (λ (kept : Kept). bytes_eq name (get_or names kept.activity [])) all.events.items moved same)
-        ∙ sym (any-map (λ (seen : Seen). bytes_eq name seen.activity) (read_back all.cases.names names all.texts.items) all.events.items)
+        ∙ sym (any-map (λ (seen : Seen). bytes_eq name seen.activity) (read_back all.cases.names names all.keys) all.events.items)
         ∙ ap (list_any (λ (seen : Seen). bytes_eq name seen.activity)) h.read
         ∙ any-map (λ (seen : Seen). bytes_eq name seen.activity) (seen_of columns.order_as) events
         ∙ sym (any-map (bytes_eq name) (λ (event : Event). event.activity) events)
@@ -211,7 +212,7 @@ module _ (columns : Columns) (limits : Limits) (events : List Event) (all : Coll
     flat-count : length (events_of log.traces) ≡ length events
     flat-count =
         ap length flat ∙ length-map moved (λ (kept : Kept). kept.activity) ∙ length_permutation all.events.items moved same
-        ∙ sym (length-map all.events.items (read_back all.cases.names names all.texts.items)) ∙ ap length h.read ∙ length-map events (seen_of columns.order_as)
+        ∙ sym (length-map all.events.items (read_back all.cases.names names all.keys)) ∙ ap length h.read ∙ length-map events (seen_of columns.order_as)
 
     pub is_log : (ordered : Bool) → ordered ≡ is_some columns.order → log.traces ≡ traces_of ordered
         → (log.trace_limit ≡ limits.traces) × (log.event_limit ≡ limits.events) → IsLogOf columns limits events all.activities log

@@ -1,5 +1,5 @@
 -- The order of what is kept of events.
-use Rattle.std.proofs.Common.{◌≡◌, ◌==◌, ◌&&◌, not, ℕ, List, pos, nat_cmp, slice_range, arith, [], unwrap_or}
+use Rattle.std.proofs.Common.{◌≡◌, ◌==◌, ◌&&◌, not, ℕ, pos, nat_cmp, arith, [], unwrap_or}
 use Rattle.std.proofs.lemmas.Bool.Decides.{nat_tests}
 use Rattle.std.specs.List.Sorted.{ties}
 use Rattle.std.specs.Cmp.{IsStrictWeakOrder, nat_cmp_total, then_total, on_total}
@@ -12,15 +12,16 @@ use Rattle.log_columns.specs.declared.OrderAs.TheVariants as by
 use Rattle.csv_log.specs.CsvLog.{Event, is_before}
 use Rattle.csv_log.specs.Number.{number_of}
 use Rattle.csv_log.specs.declared.kept.Kept.{Kept}
-use Rattle.csv_log.specs.Kept.{is_earlier_case, is_less, is_of_case}
+use Rattle.csv_log.specs.declared.keys.Keys.{Keys}
+use Rattle.csv_log.specs.Kept.{is_earlier_case, is_less, is_of_case, number_at, text_at}
 
-pub is_less_weak : (texts : List ℕ) → IsStrictWeakOrder (is_less texts)
-is_less_weak texts =
-    ranks_by (then_total (on_total (λ (kept : Kept). slice_range texts kept.start kept.end) nat_list_cmp_total) (on_total (λ (kept : Kept). kept.number) int_cmp_total)) (λ (kept : Kept). kept)
+pub is_less_weak : (keys : Keys) → IsStrictWeakOrder (is_less keys)
+is_less_weak keys =
+    ranks_by (then_total (on_total (λ (kept : Kept). text_at keys kept.place) nat_list_cmp_total) (on_total (λ (kept : Kept). number_at keys kept.place) int_cmp_total)) (λ (kept : Kept). kept)
 
 -- some event of the case
 abbrev pub of_case : ℕ → Kept
-of_case case = record { case = case; activity = 0; number = pos 0; start = 0; end = 0 }
+of_case case = record { case = case; activity = 0; place = 0 }
 
 tied : (m n : ℕ) → (not (is_lt (nat_cmp m n)) && not (is_lt (nat_cmp n m))) ≡ (n == m)
 tied m n = grind (arith, nat_tests)

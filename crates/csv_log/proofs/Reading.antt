@@ -1,5 +1,5 @@
 -- What the reader has read of a CSV text.
-use Rattle.std.proofs.Common.{◌≡◌, ℕ, suc, ◌+◌, List, [], ◌∷◌, ◌++◌, Some, None, Result, Ok, Err, length, map, position, sym, ap, ap₂, ◌∙◌, subst, arith, append_assoc}
+use Rattle.std.proofs.Common.{◌≡◌, ℕ, suc, ◌+◌, List, [], ◌∷◌, ◌++◌, Some, None, Result, Ok, Err, length, map, option_map, position, sym, ap, ap₂, ◌∙◌, subst, arith, append_assoc}
 use Rattle.std.proofs.lemmas.List.{length-map, map-append}
 use denote.Ref.{Bor}
 use Rattle.std.specs.Option.{option_or}
@@ -54,7 +54,7 @@ module _ (columns : Columns) (limits : Limits) (bytes : List ℕ) where
       pub reading : IsReading (strip_bom bytes) (header ∷ rows) reader
       pub placed : ArePlaces header columns places
       pub present : position (lacks columns limits header) (wanted columns) ≡ None
-      pub collects : Collects columns.order_as limits (map (event_of columns header) rows) collected
+      pub collects : Collects columns limits (map (event_of columns header) rows) collected
       pub faultless : AreFaultless columns limits header rows
 
     module _ (reader next : Reader (Bor (List ℕ))) (collected : Collected) (h : HasRead reader collected) (row : List (List ℕ))
@@ -71,7 +71,7 @@ module _ (columns : Columns) (limits : Limits) (bytes : List ℕ) where
           at_fault columns limits h.header bytes (h.rows ++ row ∷ all.0) all.1 e h.present (fault_here columns limits h.header h.rows row all.0 e h.faultless found)
 
       number_is : length collected.events.items + 2 ≡ length h.rows + 2
-      number_is = ap (λ n. n + 2) (collected_count columns.order_as limits (map (event_of columns h.header) h.rows) collected h.collects ∙ length-map h.rows (event_of columns h.header))
+      number_is = ap (λ n. n + 2) (collected_count columns limits (map (event_of columns h.header) h.rows) collected h.collects ∙ length-map h.rows (event_of columns h.header))
 
       pub row_refused : (e : Refusal) (number : ℕ) → number ≡ length collected.events.items + 2 → row_fault columns h.header row number ≡ Some e → CsvCause (csv_log columns limits bytes) e
       row_refused e number is fault =
@@ -85,7 +85,7 @@ module _ (columns : Columns) (limits : Limits) (bytes : List ℕ) where
 
         pub add_refused : (e : Refusal) → CollectCause fields limits collected e → CsvCause (csv_log columns limits bytes) e
         add_refused e why =
-            let limit = limit_refused columns.order_as limits (map (event_of columns h.header) h.rows) (event_of columns h.header row) fields collected h.collects says e why in
+            let limit = limit_refused columns limits (map (event_of columns h.header) h.rows) (event_of columns h.header row) fields collected h.collects says e why in
             cause_of (csv_log columns limits bytes) e _ limit (λ fault. refused e (ap₂ option_or no_row_fault fault))
 
         pub has_read_more : (after : Collected) → AddsEvent fields limits collected after → HasRead next after
@@ -96,15 +96,16 @@ module _ (columns : Columns) (limits : Limits) (bytes : List ℕ) where
           placed = h.placed;
           present = h.present;
           collects =
-              subst (λ l. Collects columns.order_as limits l after) (sym (map-append (event_of columns h.header) h.rows (row ∷ [])))
-              (collects-more columns.order_as limits (map (event_of columns h.header) h.rows) (event_of columns h.header row) fields collected h.collects says after adds);
+              subst (λ l. Collects columns limits l after) (sym (map-append (event_of columns h.header) h.rows (row ∷ [])))
+              (collects-more columns limits (map (event_of columns h.header) h.rows) (event_of columns h.header row) fields collected h.collects says
+              (λ none. ap (option_map (field_of h.header row)) none) after adds);
           faultless =
               faultless-push columns limits h.header h.rows row h.faultless no_row_fault
-              (no_limit columns.order_as limits (map (event_of columns h.header) h.rows) (event_of columns h.header row) fields collected h.collects says after adds);
+              (no_limit columns limits (map (event_of columns h.header) h.rows) (event_of columns h.header row) fields collected h.collects says after adds);
         }
 
     pub has_read_header : (header : List (List ℕ)) (reader : Reader (Bor (List ℕ))) (collected : Collected) → IsReading (strip_bom bytes) (header ∷ []) reader
-        → ArePlaces header columns places → position (lacks columns limits header) (wanted columns) ≡ None → Collects columns.order_as limits [] collected → HasRead reader collected
+        → ArePlaces header columns places → position (lacks columns limits header) (wanted columns) ≡ None → Collects columns limits [] collected → HasRead reader collected
     has_read_header header reader collected reading placed present collects = record {
       header = header;
       rows = [];

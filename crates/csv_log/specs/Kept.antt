@@ -17,6 +17,9 @@ use Rattle.log_columns.specs.declared.OrderAs.{OrderAs}
 use Rattle.log_columns.specs.declared.OrderAs.TheVariants as by
 use Rattle.csv_log.specs.declared.collect.Collected.{Collected}
 use Rattle.csv_log.specs.declared.kept.Kept.{Kept}
+use Rattle.csv_log.specs.declared.keys.Keys.{Keys}
+use Rattle.csv_log.specs.declared.keys.Keys.TheVariants as keep
+use Rattle.csv_log.specs.declared.keys.Span.{Span}
 use Rattle.csv_log.specs.declared.places.Places.{Places}
 use Rattle.csv_log.specs.declared.row.Fields.{Fields}
 use Rattle.event_log.specs.Within.{IsWithin}
@@ -76,45 +79,81 @@ abbrev pub HasRowFault : Places → OrderAs → List (List ℕ) → ℕ → Refu
 HasRowFault places order_as row number fault = (header : List (List ℕ)) (columns : Columns) → ArePlaces header columns places → columns.order_as ≡ order_as
     → row_fault columns header row number ≡ Some fault
 
--- what is kept of an event, with the cases, the activities and the texts that were kept
-abbrev pub read_back : List (List ℕ) → List (List ℕ) → List ℕ → Kept → Seen
-read_back cases activities texts kept = record {
+-- by what the event of a place is ordered among numbers
+abbrev pub number_at : Keys → ℕ → ℤ
+number_at (keep.Numbers numbers) place = slice_index_or numbers.items place (pos 0)
+number_at keys place = pos 0
+
+-- by what the event of a place is ordered among texts
+abbrev pub text_at : Keys → ℕ → List ℕ
+text_at (keep.Texts bytes spans) place = let span = slice_index_or spans.items place (record { start = 0; end = 0 }) in slice_range bytes.items span.start span.end
+text_at keys place = []
+
+-- a text stands inside these bytes
+pub record StandsIn (bytes : ℕ) (span : Span) : Type 0 where
+  pub ordered : span.start ≤ span.end
+  pub inside : span.end ≤ bytes
+
+-- so many events have their keys
+abbrev pub HaveKeys : ℕ → Keys → Type 0
+HaveKeys events keep.Nothing = Unit {0}
+HaveKeys events (keep.Numbers numbers) = length numbers.items ≡ events
+HaveKeys events (keep.Texts bytes spans) = (length spans.items ≡ events) × All (StandsIn (length bytes.items)) spans.items
+
+-- keys of the kind that the columns ask
+abbrev pub SuitKeys : Columns → Keys → Type 0
+SuitKeys columns keep.Nothing = columns.order ≡ None
+SuitKeys columns (keep.Numbers numbers) = columns.order_as ≡ by.Number
+SuitKeys columns (keep.Texts bytes spans) = columns.order_as ≡ by.Text
+
+-- the key of an event went behind the others
+abbrev pub AddsKey : Fields → Keys → Keys → Type 0
+AddsKey fields keep.Nothing keep.Nothing = Unit {0}
+AddsKey fields (keep.Numbers old) (keep.Numbers new) = new.items ≡ old.items ++ fields.number ∷ []
+AddsKey fields (keep.Texts old before) (keep.Texts new after) =
+    (new.items ≡ old.items ++ fields.text.now) × (after.items ≡ before.items ++ record { start = length old.items; end = length old.items + length fields.text.now } ∷ [])
+AddsKey fields old new = ⊥
+
+-- what is kept of an event, with the cases, the activities and the keys that were kept
+abbrev pub read_back : List (List ℕ) → List (List ℕ) → Keys → Kept → Seen
+read_back cases activities keys kept = record {
   case = slice_index_or cases kept.case [];
   activity = slice_index_or activities kept.activity [];
-  number = kept.number;
-  text = slice_range texts kept.start kept.end;
+  number = number_at keys kept.place;
+  text = text_at keys kept.place;
 }
 
 -- its numbers stand for something
-pub record IsInside (cases activities texts : ℕ) (kept : Kept) : Type 0 where
+pub record IsInside (cases activities events : ℕ) (kept : Kept) : Type 0 where
   pub case : kept.case < cases
   pub activity : kept.activity < activities
-  pub ordered : kept.start ≤ kept.end
-  pub end : kept.end ≤ texts
+  pub place : kept.place < events
 
 -- these events were collected
-pub record Collects (order_as : OrderAs) (limits : Limits) (events : List Event) (all : Collected) : Type 0 where
+pub record Collects (columns : Columns) (limits : Limits) (events : List Event) (all : Collected) : Type 0 where
   pub cases : all.cases.names ≡ first_seen (map (λ event. event.case) events)
   pub activities : all.activities.names ≡ first_seen (map (λ event. event.activity) events)
   pub case_limit : all.cases.limit ≡ limits.traces
   pub activity_limit : all.activities.limit ≡ limits.activities
-  pub read : map (read_back all.cases.names all.activities.names all.texts.items) all.events.items ≡ map (seen_of order_as) events
-  pub inside : All (IsInside (length all.cases.names) (length all.activities.names) (length all.texts.items)) all.events.items
+  pub read : map (read_back all.cases.names all.activities.names all.keys) all.events.items ≡ map (seen_of columns.order_as) events
+  pub inside : All (IsInside (length all.cases.names) (length all.activities.names) (length all.events.items)) all.events.items
+  pub suit : SuitKeys columns all.keys
+  pub keys : HaveKeys (length all.events.items) all.keys
   pub few_events : length events ≤ limits.events
   pub few_cases : length all.cases.names ≤ limits.traces
   pub few_activities : length all.activities.names ≤ limits.activities
 
 -- how what is kept of two events compares by what orders them
-abbrev pub kept_cmp : List ℕ → Kept → Kept → Ordering
-kept_cmp texts a b = ordering_then (slice_cmp nat_cmp (slice_range texts a.start a.end) (slice_range texts b.start b.end)) (int_cmp a.number b.number)
+abbrev pub kept_cmp : Keys → Kept → Kept → Ordering
+kept_cmp keys a b = ordering_then (slice_cmp nat_cmp (text_at keys a.place) (text_at keys b.place)) (int_cmp (number_at keys a.place) (number_at keys b.place))
 
 -- whether what is kept of an event comes before another whatever the order of their records
-abbrev pub is_less : List ℕ → Kept → Kept → Bool
-is_less texts a b = is_lt (kept_cmp texts a b)
+abbrev pub is_less : Keys → Kept → Kept → Bool
+is_less keys a b = is_lt (kept_cmp keys a b)
 
 -- in ascending order where they are ordered, and else as they came
-abbrev pub sorted_where : Bool → List ℕ → List Kept → List Kept
-sorted_where ordered texts events = if ordered then stably_sorted (is_less texts) events else events
+abbrev pub sorted_where : Bool → Keys → List Kept → List Kept
+sorted_where ordered keys events = if ordered then stably_sorted (is_less keys) events else events
 
 -- the same of what it stands for
 abbrev pub seen_less : Seen → Seen → Bool
@@ -124,13 +163,11 @@ seen_less a b = is_lt (ordering_then (slice_cmp nat_cmp a.text b.text) (int_cmp 
 pub record AddsEvent (fields : Fields) (limits : Limits) (old new : Collected) : Type 0 where
   pub cases : new.cases ≡ record { names = with_name old.cases.names fields.case.now; limit = old.cases.limit }
   pub activities : new.activities ≡ record { names = with_name old.activities.names fields.activity.now; limit = old.activities.limit }
-  pub texts : new.texts.items ≡ old.texts.items ++ fields.text.now
+  pub keys : AddsKey fields old.keys new.keys
   pub events : new.events.items ≡ old.events.items ++ record {
     case = place_of old.cases.names fields.case.now;
     activity = place_of old.activities.names fields.activity.now;
-    number = fields.number;
-    start = length old.texts.items;
-    end = length old.texts.items + length fields.text.now;
+    place = length old.events.items;
   } ∷ []
   pub few_events : length old.events.items < limits.events
   pub few_cases : length (with_name old.cases.names fields.case.now) ≤ old.cases.limit
@@ -177,4 +214,4 @@ pub record IsLogOf (columns : Columns) (limits : Limits) (events : List Event) (
 
 -- whatever events were collected, these are their alphabet and log
 abbrev pub IsLogOfCollected : Columns → Limits → Collected → Names → Traces → Type 0
-IsLogOfCollected columns limits collected alphabet log = (events : List Event) → Collects columns.order_as limits events collected → IsLogOf columns limits events alphabet log
+IsLogOfCollected columns limits collected alphabet log = (events : List Event) → Collects columns limits events collected → IsLogOf columns limits events alphabet log

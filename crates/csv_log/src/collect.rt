@@ -1,10 +1,11 @@
 ghost use Rattle.std.specs.Prelude.{◌≡◌, ◌≤◌, ◌+◌, [], length, IfOk, IfErr, OnOk};
 ghost use Rattle.event_log.specs.Logs.{place_of, with_name};
 ghost use Rattle.event_log.specs.Within.{CanCount};
-ghost use Rattle.log_columns.specs.declared.OrderAs.{OrderAs};
 ghost use Rattle.csv_log.specs.Kept.{AddsEvent, CaseCause, CollectCause, Collects};
 
+use crate::Columns;
 use crate::kept::Kept;
+use crate::keys::Keys;
 use crate::row::Fields;
 use decl_base::{Limits, Refusal};
 use event_log::Alphabet;
@@ -18,21 +19,21 @@ pub(crate) struct Collected {
     /// The names of the activities, in the order of their first events.
     pub activities: Alphabet,
     pub events: Vec<Kept>,
-    /// The texts that order the events, one behind the other.
-    pub texts: Vec<u8>,
+    /// By what the events are ordered.
+    pub keys: Keys,
 }
 
 impl Collected {
     /// No event.
-    pub fn new(alloc: Global, limits: &Limits) -> Collected
+    pub fn new(alloc: Global, columns: &Columns, limits: &Limits) -> Collected
         requires { CanCount limits.now }
-        ensures { (order_as : OrderAs) → Collects order_as limits.now [] result }
+        ensures { Collects columns.now limits.now [] result }
     {
         Collected {
             cases: Alphabet::new(alloc, limits.traces),
             activities: Alphabet::new(alloc, limits.activities),
             events: Vec::new(alloc),
-            texts: Vec::new(alloc),
+            keys: Keys::new(alloc, columns),
         }
     }
 
@@ -55,14 +56,12 @@ impl Collected {
         }
         let case = add_case(&mut self.cases, fields.case)?;
         let activity = self.activities.add(fields.activity)?;
-        let start = self.texts.len();
-        self.texts.extend_from_slice(fields.text)?;
+        self.keys.add(fields)?;
+        let place = self.events.len();
         self.events.push(Kept {
             case,
             activity,
-            number: fields.number,
-            start,
-            end: self.texts.len(),
+            place,
         })?;
         Ok(())
     }

@@ -1,4 +1,4 @@
-ghost use Rattle.std.specs.Prelude.{◌≡◌, if◌then◌else◌, List, vec_len, ◌≤◌, ◌<◌, ◌+◌, ◌^◌, ◌==◌, ◌∷◌, [], ◌++◌, ℕ, All, IfOk, IfErr, OnOk, length, filter, map, slice_range, take};
+ghost use Rattle.std.specs.Prelude.{◌≡◌, if◌then◌else◌, List, vec_len, ◌≤◌, ◌<◌, ◌+◌, ◌^◌, ◌==◌, ◌∷◌, [], ◌++◌, ℕ, All, IfOk, IfErr, OnOk, length, filter, map, take};
 ghost use Rattle.std.specs.Cmp.Lexicographic.{slice_cmp};
 ghost use Rattle.std.specs.List.{prefix_len, range_with_len};
 ghost use Rattle.std.specs.List.Sorted.{IsPermutation, IsSortedBy};
@@ -9,6 +9,7 @@ ghost use Rattle.csv_log.specs.Kept.{HaveTheEvents, is_earlier_case, is_less, is
 ghost use Rattle.csv_log.specs.Sorting.{stably_sorted};
 
 use crate::kept::Kept;
+use crate::keys::Keys;
 use decl_base::{Limits, Refusal};
 use event_log::Log;
 use std::alloc::Global;
@@ -19,7 +20,7 @@ use std::cmp::Ordering;
 pub(crate) fn grouped_log(
     alloc: Global,
     events: &mut Vec<Kept>,
-    texts: &[u8],
+    keys: &Keys,
     ordered: bool,
     cases: u32,
     limits: &Limits,
@@ -27,57 +28,45 @@ pub(crate) fn grouped_log(
     requires few_cases { cases ≤ limits.now.traces }
     requires few_events { vec_len events.old ≤ limits.now.events }
     requires inside { All (λ kept. kept.case < cases) events.old.items }
-    ensures traces { IfOk result (λ log. log.traces ≡ traces_by_case cases (sorted_where ordered texts.now events.old.items)) }
+    ensures traces { IfOk result (λ log. log.traces ≡ traces_by_case cases (sorted_where ordered keys.now events.old.items)) }
     ensures events { IfOk result (λ log. HaveTheEvents log.traces events.old.items) }
     ensures within { IfOk result (λ log. (log.trace_limit ≡ limits.now.traces) × (log.event_limit ≡ limits.now.events)) }
     ensures err { IfErr result (λ e. e ≡ Refusal.Memory) }
 {
-    sort_where_ordered(events, texts, ordered)?;
+    sort_where_ordered(events, keys, ordered)?;
     sort_by_case(events)?;
     traces_of(alloc, events, cases, limits)
 }
 
 /// Puts the events in ascending order of what orders them, where they are `ordered`.
-fn sort_where_ordered(events: &mut Vec<Kept>, texts: &[u8], ordered: bool) -> Result<(), Refusal>
-    ensures sorted { OnOk result (events.new.items ≡ sorted_where ordered texts.now events.old.items) }
+fn sort_where_ordered(events: &mut Vec<Kept>, keys: &Keys, ordered: bool) -> Result<(), Refusal>
+    ensures sorted { OnOk result (events.new.items ≡ sorted_where ordered keys.now events.old.items) }
     ensures same { OnOk result (IsPermutation events.old.items events.new.items) }
     ensures err { IfErr result (λ e. e ≡ Refusal.Memory) }
 {
     if !ordered {
         return Ok(());
     }
-    sort_by_value(events, texts)
+    sort_by_value(events, keys)
 }
 
 /// Puts the events in ascending order of what orders them. Those that tie keep their order.
-fn sort_by_value(events: &mut Vec<Kept>, texts: &[u8]) -> Result<(), Refusal>
-    ensures sorted { OnOk result (events.new.items ≡ stably_sorted (is_less texts.now) events.old.items) }
+fn sort_by_value(events: &mut Vec<Kept>, keys: &Keys) -> Result<(), Refusal>
+    ensures sorted { OnOk result (events.new.items ≡ stably_sorted (is_less keys.now) events.old.items) }
     ensures same { IsPermutation events.old.items events.new.items }
     ensures err { IfErr result (λ e. e ≡ Refusal.Memory) }
 {
-    events.sort_by(|a, b| compare(texts, a, b))?;
+    events.sort_by(|a, b| compare(keys, a, b))?;
     Ok(())
 }
 
 /// Which of two events stands first by what orders them.
-fn compare(texts: &[u8], a: &Kept, b: &Kept) -> Ordering
-    ensures { result ≡ kept_cmp texts.now a.now b.now }
+fn compare(keys: &Keys, a: &Kept, b: &Kept) -> Ordering
+    ensures { result ≡ kept_cmp keys.now a.now b.now }
 {
-    text_of(texts, a)
-        .cmp(text_of(texts, b))
-        .then(a.number.cmp(&b.number))
-}
-
-/// The text that orders an event, as far as it is there.
-fn text_of<'a>(texts: &'a [u8], event: &Kept) -> &'a [u8]
-    ensures { result.now ≡ slice_range texts.now event.now.start event.now.end }
-{
-    let end = event.end.min(texts.len());
-    if event.start < end {
-        &texts[event.start..end]
-    } else {
-        &[]
-    }
+    keys.text_at(a.place)
+        .cmp(keys.text_at(b.place))
+        .then(keys.number_at(a.place).cmp(&keys.number_at(b.place)))
 }
 
 /// Puts the events of one case behind those of the case before. Those of a case keep their order.

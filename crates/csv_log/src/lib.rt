@@ -4,6 +4,7 @@
 mod collect;
 mod group;
 mod kept;
+mod keys;
 mod laws;
 mod number;
 mod places;

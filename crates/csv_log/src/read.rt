@@ -39,7 +39,7 @@ pub fn read_csv(
         return Err(Refusal::Header { which: 1 });
     }
     let places = find_places(&row, columns)?;
-    let mut collected = Collected::new(alloc, limits);
+    let mut collected = Collected::new(alloc, columns, limits);
     while next_record(&mut reader, &mut row)? {
         let fields = read_row(&row, &places, columns.order_as, collected.next_number())?;
         collected.add(&fields, limits)?;
@@ -54,7 +54,7 @@ fn finish(
     columns: &Columns,
     limits: &Limits,
 ) -> Result<(Alphabet, Log), Refusal>
-    requires { (events : List Event) × Collects columns.now.order_as limits.now events collected }
+    requires { (events : List Event) × Collects columns.now limits.now events collected }
     ensures ok { IfOk result (λ read. IsLogOfCollected columns.now limits.now collected read.0 read.1) }
     ensures err { IfErr result (λ e. e ≡ Refusal.Memory) }
 {
@@ -62,12 +62,12 @@ fn finish(
         cases,
         activities,
         mut events,
-        texts,
+        keys,
     } = collected;
     let log = grouped_log(
         alloc,
         &mut events,
-        &texts,
+        &keys,
         columns.order.is_some(),
         cases.len(),
         limits,

@@ -33,7 +33,7 @@ same_cases cases sorted before same = λ i. map (λ case. map (λ (kept : Kept).
 
 pub returns-clause-traces : goal.returns-clause-traces
 returns-clause-traces c =
-    ok_then c.traces_of.result _ (λ (log : Traces). log.traces ≡ traces_by_case c.args.cases (sorted_where c.args.ordered c.args.texts.now c.args.events.now.items)) c.traces_of.ensures.traces
+    ok_then c.traces_of.result _ (λ (log : Traces). log.traces ≡ traces_by_case c.args.cases (sorted_where c.args.ordered c.args.keys.now c.args.events.now.items)) c.traces_of.ensures.traces
     (λ (log : Traces) is. is ∙ ap (traces_by_case c.args.cases) c.deref.ensures.value
     ∙ same_cases c.args.cases c.sort_by_case.new.events.items c.sort_where_ordered.new.events.items c.in_ok-sort_by_case.ensures.kept
     ∙ ap (traces_by_case c.args.cases) c.in_ok-sort_where_ordered.ensures.sorted)

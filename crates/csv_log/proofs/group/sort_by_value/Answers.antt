@@ -8,8 +8,8 @@ use Rattle.csv_log.proofs.group.sort_by_value.Goals as goal
 
 pub returns-clause-sorted : goal.returns-clause-sorted
 returns-clause-sorted c =
-    let texts = c.args.texts.now in
-    let answers = answers_alike _ (λ a r. is_lt r ≡ is_less texts a.0.now a.1.0.now) _ (λ a r next called. (search rules, search rules)) in
-    stably_sorted-is (is_less texts) (is_less_weak texts) c.args.events.now.items c.sort_by.new.self.items
-    (c.in_ok-sort_by.ensures.sorted (is_less texts) (is_less_weak texts) answers)
-    (c.in_ok-sort_by.ensures.stable (is_less texts) (is_less_weak texts) answers)
+    let keys = c.args.keys.now in
+    let answers = answers_alike _ (λ a r. is_lt r ≡ is_less keys a.0.now a.1.0.now) _ (λ a r next called. (search rules, search rules)) in
+    stably_sorted-is (is_less keys) (is_less_weak keys) c.args.events.now.items c.sort_by.new.self.items
+    (c.in_ok-sort_by.ensures.sorted (is_less keys) (is_less_weak keys) answers)
+    (c.in_ok-sort_by.ensures.stable (is_less keys) (is_less_weak keys) answers)

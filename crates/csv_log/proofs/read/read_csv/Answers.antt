@@ -31,7 +31,7 @@ loop-collected-init c =
     let goes = c.in_ok-next_record.ensures.ok (strip_bom c.args.bytes.now) [] begun in
     let reading = subst (λ (found : Bool). GoesOn (strip_bom c.args.bytes.now) [] found (fields_of c.next_record.new.row) c.next_record.new.reader) c.if-not-branch.false goes in
     has_read_header c.args.columns.now c.args.limits.now c.args.bytes.now c.in_ok-places.places (fields_of c.next_record.new.row) c.next_record.new.reader c.new-collected.result reading
-    c.in_ok-places.ensures.ok c.in_ok-places.ensures.present (c.new-collected.ensures c.args.columns.now.order_as)
+    c.in_ok-places.ensures.ok c.in_ok-places.ensures.present c.new-collected.ensures
 
 pub returns-in_err-fields-clause-err : goal.returns-in_err-fields-clause-err
 returns-in_err-fields-clause-err c =

@@ -14,6 +14,8 @@ import os
 import re
 import sys
 
+from reading_list import File, imported, words_of
+
 ROOT = os.path.join(os.path.dirname(os.path.abspath(__file__)), "..")
 
 STATUS = re.compile(r"^status_of \(?refusal\.(\w+)[^)=]*\)? = status\.(\w+)", re.MULTILINE)
@@ -23,6 +25,10 @@ DERIVED = re.compile(r'#\[error\("([^"]*)"\)\]\s+(\w+)')
 OPTION = re.compile(r'option (\d+) \(codes "([\w-]+)"\)')
 OPTION_ROW = re.compile(r"^\| (\d+) \| `--([\w-]+)` \|", re.MULTILINE)
 ROW = re.compile(r"^\| (\d) \| (?:`(minerful: [^`]*)`)? ?\|", re.MULTILINE)
+
+FUNCTION = re.compile(r"^( *)(pub )?(?:const )?fn (\w+)(.*?)(?=^\1\{|;$|(?<!record) \{$)", re.MULTILINE | re.DOTALL)
+OWNER = re.compile(r"^(?:impl(?:<[^\n]*?>)? (\w+(?:<[^\n]*?>)? for )?|(pub trait ))(\w+)", re.MULTILINE)
+WORD_ROW = re.compile(r"^\| `(\S+)` \| `(\w+/\w+)` \| (.+) \|$", re.MULTILINE)
 
 
 def text_of(path):
@@ -84,10 +90,19 @@ def named_behind(text):
     return re.findall(r"`(\w+)`", text)
 
 
-def module_faults(line):
+def path_of(module):
+    return "crates/{}/specs/{}.antt".format(*module.split("/"))
+
+
+def modules_in(line):
+    """The modules of a line, each with what stands behind it."""
     pieces = re.split(r"`(\w+/\w+)`", line)
-    for module, behind in zip(pieces[1::2], pieces[2::2]):
-        path = "crates/{}/specs/{}.antt".format(*module.split("/"))
+    return zip(pieces[1::2], pieces[2::2])
+
+
+def module_faults(line):
+    for module, behind in modules_in(line):
+        path = path_of(module)
         if not os.path.exists(os.path.join(ROOT, path)):
             yield f"no module {module}"
             continue
@@ -131,6 +146,61 @@ def clause_faults(line):
                 yield f"{crate} has no function or clause {path}"
 
 
+# The words of the clauses of public functions, and their entries.
+
+
+def exported(crate):
+    """The names that a crate hands out. One with a `main` hands out none."""
+    path = f"crates/{crate}/src/lib.rt"
+    code = text_of(path) if os.path.exists(os.path.join(ROOT, path)) else ""
+    names = re.findall(r"^pub use [\w:]*?(?:\{([^}]*)\}|(\w+));", code, re.MULTILINE)
+    return {name.strip() for several, one in names for name in (several or one).split(",")}
+
+
+def public_heads(code, names):
+    """The heads of the functions, and of the methods of types and traits, that have one of these names and are public."""
+    code = re.split(r"^#\[cfg\(test\)\]\nmod \w+ \{", code, flags=re.MULTILINE)[0]
+    for found in FUNCTION.finditer(code):
+        indent, is_pub, name, head = found.groups()
+        *_, owner = [None, *OWNER.finditer(code, 0, found.start())]
+        of_trait = owner and (owner[1] or owner[2])
+        if (owner and owner[3] in names and (is_pub or of_trait)) if indent else (is_pub and name in names):
+            yield head
+
+
+def defined_at(name, path):
+    """Where a name that a file defines or hands on is defined, with its name there."""
+    file = File(path)
+    return defined_at(*file.imports[name]) if name not in file.defines and name in file.imports else (name, path)
+
+
+def words_of_clauses():
+    """Each word, and the file that defines it, that the clauses of public functions use."""
+    for crate in crates():
+        for path in sorted(glob.glob(os.path.join(ROOT, "crates", crate, "src", "*.rt"))):
+            code, names = text_of(path), imported(text_of(path))
+            for head in public_heads(code, exported(crate)):
+                clauses = re.search(r"^ *(?:requires|ensures)\b.*", head, re.MULTILINE | re.DOTALL)
+                for word in words_of(clauses[0]) & names.keys() if clauses else ():
+                    yield defined_at(*names[word])
+
+
+def entries():
+    """Each name, and the file that it is said to stand in, of the lines and the table of docs/DEFINITIONS.md."""
+    text = text_of("docs/DEFINITIONS.md")
+    for line in text.splitlines():
+        if line.startswith("- **In** "):
+            yield from ((name, path_of(module)) for module, behind in modules_in(line) for name in named_behind(behind))
+    yield from ((name, path_of(module)) for name, module, _ in WORD_ROW.findall(text))
+
+
+def word_faults():
+    told = set(entries())
+    yield from (f"docs/DEFINITIONS.md has no entry for {name} of {path}" for name, path in sorted({*words_of_clauses()} - told))
+    for name, module, _ in WORD_ROW.findall(text_of("docs/DEFINITIONS.md")):
+        yield from module_faults(f"`{module}`: `{name}`")
+
+
 # The clauses that README names.
 
 
@@ -153,7 +223,7 @@ def definition_faults():
 
 
 def main():
-    faults = [*refusal_faults(), *option_faults(), *readme_clause_faults(), *definition_faults()]
+    faults = [*refusal_faults(), *option_faults(), *readme_clause_faults(), *definition_faults(), *word_faults()]
     print("\n".join(faults) or f"{len(refusals())} refusals, and all clauses and modules that are named, are as in the code")
     return int(bool(faults))
 

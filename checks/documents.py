@@ -195,10 +195,26 @@ def entries():
 
 
 def word_faults():
-    told = set(entries())
-    yield from (f"docs/DEFINITIONS.md has no entry for {name} of {path}" for name, path in sorted({*words_of_clauses()} - told))
+    missing = sorted({*words_of_clauses()} - {*entries()})
+    yield from (f"docs/DEFINITIONS.md has no entry for {name} of {path}" for name, path in missing)
     for name, module, _ in WORD_ROW.findall(text_of("docs/DEFINITIONS.md")):
         yield from module_faults(f"`{module}`: `{name}`")
+
+
+# The layers of docs/ARCHITECTURE.md.
+
+
+def layer_faults():
+    text = text_of("docs/ARCHITECTURE.md")
+    layers = text[text.index("## The layers") :].split("```")[1]
+    found = re.findall(r"^ (\w+) ", layers, re.MULTILINE)
+    for crate, under in (line.split(":") for line in text_of("crates.txt").splitlines()):
+        if crate not in found:
+            yield f"docs/ARCHITECTURE.md has no layer {crate}"
+        else:
+            behind = found[found.index(crate) :]
+            yield from (f"docs/ARCHITECTURE.md has {crate} before {other}" for other in under.split() if other in behind)
+    yield from (f"docs/ARCHITECTURE.md has a layer {crate}, which is no crate" for crate in found if crate not in crates())
 
 
 # The clauses that README names.
@@ -223,7 +239,8 @@ def definition_faults():
 
 
 def main():
-    faults = [*refusal_faults(), *option_faults(), *readme_clause_faults(), *definition_faults(), *word_faults()]
+    of_readme = [*refusal_faults(), *option_faults(), *readme_clause_faults()]
+    faults = [*of_readme, *definition_faults(), *word_faults(), *layer_faults()]
     print("\n".join(faults) or f"{len(refusals())} refusals, and all clauses and modules that are named, are as in the code")
     return int(bool(faults))
 

@@ -168,7 +168,8 @@ def follow(path, clauses, files):
 def rows_of(files, found, before):
     """Of each file that has more paragraphs than before: its path, its lines, and those of what is more."""
     more = {path: files[path].reached - before.get(path, set()) for path in found}
-    return [(path, files[path].lines, files[path].lines_of(more[path])) for path in found if path not in before or more[path]]
+    kept = [path for path in found if path not in before or more[path]]
+    return [(path, files[path].lines, files[path].lines_of(more[path])) for path in kept]
 
 
 def reading_order():

@@ -37,7 +37,10 @@ def record_of(line):
 
 
 def main():
-    files = [lines_of(path) for path in sys.argv[1:] or glob.glob("/var/log/dpkg.log*")]
+    paths = sys.argv[1:] or glob.glob("/var/log/dpkg.log*")
+    if not paths:
+        sys.exit("There is no /var/log/dpkg.log: name a file that dpkg wrote.")
+    files = [lines_of(path) for path in paths]
     # Each file begins with its oldest line, so this puts the oldest file first.
     lines = [line for file in sorted(files) for line in file]
     records = sorted(filter(None, map(record_of, lines)), key=lambda record: record[2])

@@ -1,7 +1,8 @@
 -- A table that is filled row by row, and the run through it.
 use Rattle.std.proofs.Common.{◌≡◌, ◌≢◌, ◌↔◌, ◌⊎◌, ℕ, suc, ◌<◌, ◌≤◌, List, [], ◌∷◌, Bool, false, IsTrue, length, slice_set, slice_index_or, nat_eq, refl, sym, ap, subst, ◌∙◌, arith, ⊎_elim}
 use Rattle.std.proofs.lemmas.List.{get_or-set_same, get_or-set_other}
-use Rattle.template_core.specs.Automaton.{run}
+use Rattle.template_core.specs.Recognition.{Recognises}
+use Rattle.template_core.specs.Automaton.{TemplateMeaning, run}
 use Rattle.template_core.specs.Constraints.{IsWellMade}
 use Rattle.template_core.specs.Repertoire.{Keeps}
 use Rattle.template_core.specs.Tables.{column, class, step, table_run, keeps_by, IsTable}
@@ -61,47 +62,43 @@ one_more next_state is_accepting states k next accepting x y z v filled in_next 
     bound s class same = subst (λ n. next_state n class < states) (sym same) (bound_at class)
 
 -- a table whose rows in use are filled
-pub filled-by : (next_state : ℕ → Class → ℕ) (is_accepting : ℕ → Bool) (states start : ℕ) (table : Table)
-    → IsFilled next_state is_accepting states states table.next table.accepting → table.states ≡ states → table.start ≡ start → start < states
-    → IsTableBy states start next_state is_accepting table
+pub filled-by : (meaning : TemplateMeaning) (table : Table) → IsFilled meaning.next meaning.accepts meaning.states meaning.states table.next table.accepting
+    → table.states ≡ meaning.states → table.start ≡ 0 → IsTableBy meaning table
 unfolding step
-filled-by next_state is_accepting states start table filled es et below = record {
+filled-by meaning table filled es et = record {
   states_are = es;
   start_is = et;
   next_is = filled.rows;
   accepting_is = filled.marks;
   closed = filled.below;
-  start_below = below;
 }
 
-module _ (states start : ℕ) (next_state : ℕ → Class → ℕ) (is_accepting : ℕ → Bool) (table : Table) (by : IsTableBy states start next_state is_accepting table) where
-  pub by-IsTable : 1 ≤ states → states ≤ 12 → IsTable table
-  by-IsTable some few = record {
-    some_states = omega (arith, by.states_are);
+module _ (meaning : TemplateMeaning) (table : Table) (by : IsTableBy meaning table) where
+  pub by-IsTable : meaning.states ≤ 12 → IsTable table
+  by-IsTable few = record {
+    some_states = omega (arith, by.states_are, meaning.some_states);
     few_states = omega (arith, by.states_are);
-    start_bound = omega (arith, by.states_are, by.start_is, by.start_below);
+    start_bound = omega (arith, by.states_are, by.start_is, meaning.some_states);
     step_bound = λ state class h.
-        let lt : state < states = omega (arith, by.states_are) in
+        let lt : state < meaning.states = omega (arith, by.states_are) in
         omega (arith, by.states_are, by.next_is state class lt, by.closed state class lt);
   }
 
   -- the run through the table is the automaton's
-  by-run : (c : Constraint) (trace : List ℕ) (state : ℕ) → state < states
-      → (table_run table c state trace ≡ run next_state state c.first c.second trace) × (table_run table c state trace < states)
+  by-run : (c : Constraint) (trace : List ℕ) (state : ℕ) → state < meaning.states
+      → (table_run table c state trace ≡ run meaning.next state c.first c.second trace) × (table_run table c state trace < meaning.states)
   by-run c [] state h = (refl, h)
   by-run c (event ∷ trace) state h =
-      let e : step table state (class c event) ≡ next_state state (class c event) = by.next_is state (class c event) h in
-      let lt : step table state (class c event) < states = subst (λ n. n < states) (sym e) (by.closed state (class c event) h) in
+      let e : step table state (class c event) ≡ meaning.next state (class c event) = by.next_is state (class c event) h in
+      let lt : step table state (class c event) < meaning.states = subst (λ n. n < meaning.states) (sym e) (by.closed state (class c event) h) in
       let rest = by-run c trace (step table state (class c event)) lt in
-      (rest.0 ∙ ap (λ n. run next_state n c.first c.second trace) e, rest.1)
+      (rest.0 ∙ ap (λ n. run meaning.next n c.first c.second trace) e, rest.1)
 
-  pub by-Accepts : (kind other : Kind) → kind ≡ other
-      → ((a b : ℕ) (trace : List ℕ) → IsWellMade other a b → IsTrue (is_accepting (run next_state start a b trace)) ↔ Keeps nat_eq other a b trace)
-      → Accepts kind table
+  pub by-Accepts : (kind other : Kind) → kind ≡ other → Recognises meaning other → Accepts kind table
   by-Accepts kind other is law c trace made =
-      let begins = by-run c trace table.start (subst (λ n. n < states) (sym by.start_is) by.start_below) in
-      let same : keeps_by table c trace ≡ is_accepting (run next_state start c.first c.second trace)
-      = by.accepting_is (table_run table c table.start trace) begins.1 ∙ ap is_accepting (begins.0 ∙ ap (λ n. run next_state n c.first c.second trace) by.start_is) in
+      let begins = by-run c trace table.start (omega (arith, by.start_is, meaning.some_states)) in
+      let same : keeps_by table c trace ≡ meaning.accepts (run meaning.next 0 c.first c.second trace)
+      = by.accepting_is (table_run table c table.start trace) begins.1 ∙ ap meaning.accepts (begins.0 ∙ ap (λ n. run meaning.next n c.first c.second trace) by.start_is) in
       subst (λ k. IsTrue (keeps_by table c trace) ↔ Keeps nat_eq k c.first c.second trace) (sym is)
       (subst (λ v. IsTrue v ↔ Keeps nat_eq other c.first c.second trace) (sym same)
       (law c.first c.second trace (subst (λ k. IsWellMade k c.first c.second) is made)))

@@ -44,8 +44,8 @@ struct Places {
 
 /// The kind is the template's.
 fn places_by<T: Template>(kind: Kind, counts: &Counts) -> Places
-    requires used { T.in_use }
-    requires is { kind ≡ T.kind }
+    requires used { IsTemplate T.KIND }
+    requires is { kind ≡ T.KIND }
     requires counts { AreCounts kind counts.now }
     ensures activated { (a b : ℕ) (log : List (List ℕ)) → IsWellMade kind a b → counts.now ≡ counts_of kind a b log
         → result.activated ≡ activated nat_eq kind a b log }
@@ -104,8 +104,8 @@ pub fn arity(kind: Kind) -> u8
 
 /// The kind is the template's.
 fn arity_by<T: Template>(kind: Kind) -> u8
-    requires used { T.in_use }
-    requires is { kind ≡ T.kind }
+    requires used { IsTemplate T.KIND }
+    requires is { kind ≡ T.KIND }
     ensures { result ≡ arity kind }
 {
     T::ARITY

@@ -1,5 +1,5 @@
 ghost use Rattle.std.specs.Prelude.{◌≡◌, ◌≢◌, ◌↔◌, ◌||◌, ◌&&◌, not, ◌∷◌, ◌++◌, IsTrue, length, nat_eq};
-ghost use Rattle.template_core.specs.Constraints.{IsWellMade};
+ghost use Rattle.template_core.specs.Constraints.{IsTemplate, IsWellMade};
 ghost use Rattle.template_core.specs.Counters.{occurrences};
 ghost use Rattle.template_core.specs.Events.{at_place, occurs, is_first, is_last, before_first, after_last};
 ghost use Rattle.template_core.specs.Groups.{group_of};
@@ -22,8 +22,8 @@ pub fn keeps(constraint: &Constraint, trace: &[u32]) -> bool
 
 /// The constraint's kind is the template's.
 fn keeps_by<T: Template>(constraint: &Constraint, trace: &[u32]) -> bool
-    requires used { T.in_use }
-    requires is { constraint.now.kind ≡ T.kind }
+    requires used { IsTemplate T.KIND }
+    requires is { constraint.now.kind ≡ T.KIND }
     requires made { IsWellMade constraint.now.kind constraint.now.first constraint.now.second }
     ensures { IsTrue result ↔ Keeps nat_eq constraint.now.kind constraint.now.first constraint.now.second trace.now }
 {

@@ -23,17 +23,16 @@ pub fn table_of(kind: Kind) -> Table
 
 /// The kind is the template's, whose automaton is the least one.
 fn table_by<T: Template>(kind: Kind) -> Table
-    requires used { T.in_use }
-    requires is { kind ≡ T.kind }
-    requires start { T.start_state ≡ 0 }
-    requires few { T.state_count ≤ most_states T.kind }
-    requires least { is_least T.kind T.next_state T.is_accepting T.state_count ≡ true }
-    requires order { told T.kind T.next_state T.is_accepting T.state_count ≡ range_with_len 0 T.state_count }
+    requires used { IsTemplate T.KIND }
+    requires is { kind ≡ T.KIND }
+    requires few { T.meaning.states ≤ most_states T.KIND }
+    requires least { is_least T.KIND T.meaning.next T.meaning.accepts T.meaning.states ≡ true }
+    requires order { told T.KIND T.meaning.next T.meaning.accepts T.meaning.states ≡ range_with_len 0 T.meaning.states }
     ensures table { IsTable result }
     ensures accepts { Accepts kind result }
     ensures least { IsLeastTable kind result }
     ensures few { result.states ≤ most_states kind }
-    ensures by { IsTableBy T.state_count T.start_state T.next_state T.is_accepting result }
+    ensures by { IsTableBy T.meaning result }
 {
     let mut next = [[0; 3]; 12];
     let mut accepting = [false; 12];

@@ -1,37 +1,29 @@
 -- The automaton of NotChainSuccession accepts the traces that keep it.
-use Rattle.std.proofs.Common.{◌≡◌, ◌≢◌, ◌↔◌, ℕ, ◌+◌, List, [], ◌∷◌, ◌++◌, Bool, true, false, ◌&&◌, cond, eqb, IsTrue, nat_eq, refl, sym, ap, ◌∙◌, arith}
-use Rattle.std.proofs.lemmas.Bool.{false≢true}
+use Rattle.std.proofs.Common.{◌≡◌, ℕ, ◌+◌, List, [], ◌∷◌, ◌++◌, Bool, true, false, ◌&&◌, cond, eqb, nat_eq, sym, ap, ◌∙◌, arith}
 use Rattle.std.proofs.lemmas.Bool.Decides.{nat_tests}
+use Rattle.template_core.proofs.Broken.{said, accepts-said}
+use Rattle.template_core.specs.Recognition.{Recognises, TellsFulfilled}
 use Rattle.template_core.specs.Events.{one_if, is_last}
 use Rattle.template_core.specs.Tests.{failing, has_next, has_previous}
 use Rattle.template_core.specs.Counters.{next, previous}
-use Rattle.template_core.specs.Repertoire.{Keeps, each_of, at_first, none}
+use Rattle.template_core.specs.Repertoire.{each_of, at_first, none}
 use Rattle.template_core.specs.declared.kind.Kind.TheVariants.{NotChainSuccession}
 use Rattle.template_core.proofs.Places.{count_events-nil}
 use Rattle.template_core.proofs.Counters.{is_last-snoc, next-snoc, previous-snoc}
-use Rattle.template_core.proofs.Parts.{at_first-failing, failing-none}
-use Rattle.template_core.specs.Automaton.{run, class_of}
+use Rattle.template_core.proofs.Parts.{at_first-failing, failing-none, each_not_chained}
+use Rattle.template_core.specs.Automaton.{class_of}
 use Rattle.template_core.specs.declared.class.Class.TheVariants.{First, Second, Other}
-use Rattle.template_core.proofs.Runs.{law, apart}
-use Rattle.templates_neg.specs.NotChainSuccession.{next_after, accepts}
+use Rattle.template_core.proofs.Runs.{law, apart, by_class}
+use Rattle.templates_neg.specs.NotChainSuccession.{next_after, accepts, meaning}
 
-abbrev said : ℕ → Bool → ℕ
-said broken last = cond (eqb broken 0) (one_if last) 2
+abbrev Says : ℕ → Bool → Bool → Bool → Type 0
+Says n l v w = said (n + (one_if (l && w) + one_if (w && l))) v ≡ next_after (said n l) (cond v First (cond w Second Other))
 
-step : (n : ℕ) (l v w : Bool) → (v ≡ true → w ≡ false) → said (n + (one_if (l && w) + one_if (w && l))) v ≡ next_after (said n l) (cond v First (cond w Second Other))
-step n l true true h = absurd (false≢true (sym (h refl)))
-step n true true false h = grind (arith, nat_tests)
-step n false true false h = grind (arith, nat_tests)
-step n true false true h = grind (arith, nat_tests)
-step n false false true h = grind (arith, nat_tests)
-step n true false false h = grind (arith, nat_tests)
-step n false false false h = grind (arith, nat_tests)
+step : (n : ℕ) (l v w : Bool) → (v ≡ true → w ≡ false) → Says n l v w
+step n true = by_class (Says n true) (grind (arith, nat_tests)) (grind (arith, nat_tests)) (grind (arith, nat_tests))
+step n false = by_class (Says n false) (grind (arith, nat_tests)) (grind (arith, nat_tests)) (grind (arith, nat_tests))
 
-accepts-said : (n : ℕ) (o : Bool) → accepts (said n o) ≡ eqb n 0
-accepts-said n true = grind (arith, nat_tests)
-accepts-said n false = grind (arith, nat_tests)
-
-pub kept : (a b : ℕ) (trace : List ℕ) → a ≢ b → IsTrue (accepts (run next_after 0 a b trace)) ↔ Keeps nat_eq NotChainSuccession a b trace
+pub kept : Recognises meaning NotChainSuccession
 kept a b trace differ =
     law next_after accepts 0 a b (each_of nat_eq a b) (at_first nat_eq a (none nat_eq (has_next nat_eq b)) (none nat_eq (has_previous nat_eq a))) says at_start each_event trace
     (accepts-said (broken trace) (is_last nat_eq a trace) ∙ ap (λ n. eqb n 0) (sym (at_first-failing nat_eq a b (apart a b differ) (none nat_eq (has_next nat_eq b)) (none nat_eq (has_previous nat_eq a)) trace ∙ both)))
@@ -58,3 +50,7 @@ kept a b trace differ =
       where
         more : broken (t ++ x ∷ []) ≡ broken t + (one_if (is_last nat_eq a t && eqb x b) + one_if (eqb x b && is_last nat_eq a t))
         more = omega (arith, next-snoc nat_eq a b t x, previous-snoc nat_eq b a t x)
+
+-- the counters tell the fulfilled places
+pub told : TellsFulfilled meaning NotChainSuccession
+told a b log differ = each_not_chained nat_eq a b (apart a b differ) log

@@ -1,6 +1,8 @@
 -- The automaton of NotCoExistence: the state after an event, and which states accept.
-use Rattle.std.specs.Prelude.{◌==◌, ℕ, Bool, ◌||◌, not, cond, nat_lt}
+use Rattle.std.proofs.Common.{arith}
+use Rattle.std.specs.Prelude.{◌==◌, ℕ, Bool, ◌||◌, not, cond, nat_lt, ◌+◌}
 use Rattle.template_core.specs.declared.class.Class.{Class}
+use Rattle.template_core.specs.Automaton.{TemplateMeaning}
 use Rattle.template_core.specs.declared.class.Class.TheVariants.{First, Second, Other}
 
 -- 0: neither has come; 1: a has; 2: b has; 3: both have
@@ -11,3 +13,6 @@ next_after state Other = state
 
 abbrev pub accepts : ℕ → Bool
 accepts state = not (state == 3)
+
+abbrev pub meaning : TemplateMeaning
+meaning = record { fulfilled_by = λ counts. counts.onward.without + counts.back.without; states = 4; some_states = omega arith; next = next_after; accepts = accepts }

@@ -1,6 +1,8 @@
 -- The automaton of NotSuccession: the state after an event, and which states accept.
-use Rattle.std.specs.Prelude.{◌==◌, ℕ, Bool, not, cond}
+use Rattle.std.proofs.Common.{arith}
+use Rattle.std.specs.Prelude.{◌==◌, ℕ, Bool, not, cond, ◌+◌}
 use Rattle.template_core.specs.declared.class.Class.{Class}
+use Rattle.template_core.specs.Automaton.{TemplateMeaning}
 use Rattle.template_core.specs.declared.class.Class.TheVariants.{First, Second, Other}
 
 -- 0: no a has come; 1: one has; 2: a b has come after an a
@@ -11,3 +13,6 @@ next_after state Other = state
 
 abbrev pub accepts : ℕ → Bool
 accepts state = not (state == 2)
+
+abbrev pub meaning : TemplateMeaning
+meaning = record { fulfilled_by = λ counts. counts.onward.no_later + counts.back.no_earlier; states = 3; some_states = omega arith; next = next_after; accepts = accepts }

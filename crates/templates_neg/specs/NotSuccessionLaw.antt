@@ -1,39 +1,32 @@
 -- The automaton of NotSuccession accepts the traces that keep it.
-use Rattle.std.proofs.Common.{◌≡◌, ◌≢◌, ◌↔◌, ℕ, ◌+◌, List, [], ◌∷◌, ◌++◌, Bool, true, false, ◌&&◌, ◌||◌, not, cond, eqb, IsTrue, nat_eq, refl, sym, ap, ◌∙◌, arith}
-use Rattle.std.proofs.lemmas.Bool.{false≢true, eqb-true}
+use Rattle.std.proofs.Common.{◌≡◌, ℕ, ◌+◌, List, [], ◌∷◌, ◌++◌, Bool, true, false, ◌&&◌, ◌||◌, not, cond, eqb, nat_eq, refl, sym, ap, ◌∙◌, arith}
+use Rattle.std.proofs.lemmas.Bool.{eqb-true}
 use Rattle.std.proofs.lemmas.Bool.Decides.{nat_tests}
+use Rattle.template_core.proofs.Broken.{said, accepts-said}
+use Rattle.template_core.specs.Recognition.{Recognises, TellsFulfilled}
 use Rattle.template_core.specs.Events.{one_if, occurs}
 use Rattle.template_core.specs.Tests.{passing, failing, has_later, has_earlier}
 use Rattle.template_core.specs.Counters.{occurrences, no_later}
-use Rattle.template_core.specs.Repertoire.{Keeps, each_of, at_first, none}
+use Rattle.template_core.specs.Repertoire.{each_of, at_first, none}
 use Rattle.template_core.specs.declared.kind.Kind.TheVariants.{NotSuccession}
 use Rattle.template_core.proofs.Places.{count_events-nil}
 use Rattle.template_core.proofs.Counters.{occurs-snoc}
 use Rattle.template_core.proofs.Pairs.{failing-le}
 use Rattle.template_core.proofs.Gains.{occurs-count, later-snoc, earlier-snoc}
-use Rattle.template_core.proofs.Parts.{at_first-failing, failing-none}
-use Rattle.template_core.specs.Automaton.{run, class_of}
+use Rattle.template_core.proofs.Parts.{at_first-failing, failing-none, at_first_sum}
+use Rattle.template_core.specs.Automaton.{class_of}
 use Rattle.template_core.specs.declared.class.Class.TheVariants.{First, Second, Other}
-use Rattle.template_core.proofs.Runs.{law, apart}
-use Rattle.templates_neg.specs.NotSuccession.{next_after, accepts}
+use Rattle.template_core.proofs.Runs.{law, apart, by_class}
+use Rattle.templates_neg.specs.NotSuccession.{next_after, accepts, meaning}
 
-abbrev said : ℕ → Bool → ℕ
-said broken came = cond (eqb broken 0) (one_if came) 2
+abbrev Says : ℕ → ℕ → Bool → Bool → Bool → Type 0
+Says n m o v w = (o ≡ false → m ≡ 0) → said (n + (cond w m 0 + one_if (w && o))) (o || v) ≡ next_after (said n o) (cond v First (cond w Second Other))
 
-step : (n m : ℕ) (o v w : Bool) → (v ≡ true → w ≡ false) → (o ≡ false → m ≡ 0) → said (n + (cond w m 0 + one_if (w && o))) (o || v) ≡ next_after (said n o) (cond v First (cond w Second Other))
-step n m o true true h k = absurd (false≢true (sym (h refl)))
-step n m true true false h k = grind (arith, nat_tests)
-step n m false true false h k = grind (arith, nat_tests)
-step n m true false true h k = grind (arith, nat_tests)
-step n m false false true h k = let none = k refl in grind (arith, nat_tests)
-step n m true false false h k = grind (arith, nat_tests)
-step n m false false false h k = grind (arith, nat_tests)
+step : (n m : ℕ) (o v w : Bool) → (v ≡ true → w ≡ false) → Says n m o v w
+step n m true = by_class (Says n m true) (λ k. grind (arith, nat_tests)) (λ k. grind (arith, nat_tests)) (λ k. grind (arith, nat_tests))
+step n m false = by_class (Says n m false) (λ k. grind (arith, nat_tests)) (λ k. let none = k refl in grind (arith, nat_tests)) (λ k. grind (arith, nat_tests))
 
-accepts-said : (n : ℕ) (o : Bool) → accepts (said n o) ≡ eqb n 0
-accepts-said n true = grind (arith, nat_tests)
-accepts-said n false = grind (arith, nat_tests)
-
-pub kept : (a b : ℕ) (trace : List ℕ) → a ≢ b → IsTrue (accepts (run next_after 0 a b trace)) ↔ Keeps nat_eq NotSuccession a b trace
+pub kept : Recognises meaning NotSuccession
 kept a b trace differ =
     law next_after accepts 0 a b (each_of nat_eq a b) (at_first nat_eq a (none nat_eq (has_later nat_eq b)) (none nat_eq (has_earlier nat_eq a))) says at_start each_event trace
     (accepts-said (broken trace) (occurs nat_eq a trace) ∙ ap (λ n. eqb n 0) (sym (at_first-failing nat_eq a b (apart a b differ) (none nat_eq (has_later nat_eq b)) (none nat_eq (has_earlier nat_eq a)) trace ∙ both)))
@@ -63,3 +56,7 @@ kept a b trace differ =
       where
         more : broken (t ++ x ∷ []) ≡ broken t + (cond (eqb x b) (no_later nat_eq a b t) 0 + one_if (eqb x b && occurs nat_eq a t))
         more = omega (arith, later-snoc nat_eq a b t x, earlier-snoc nat_eq b a t x)
+
+-- the counters tell the fulfilled places
+pub told : TellsFulfilled meaning NotSuccession
+told a b log differ = at_first_sum nat_eq a b (apart a b differ) (none nat_eq (has_later nat_eq b)) (none nat_eq (has_earlier nat_eq a)) log

@@ -1,57 +1,28 @@
-use template_core::{Class, Counts, Kind, Template, number_of};
+use template_core::{Class, Counts, Kind, Template};
 
 /// No trace has both.
 pub struct NotCoExistence;
 
 impl Template for NotCoExistence {
     ghost use Rattle.std.proofs.Common.{refl};
-    ghost use Rattle.std.specs.Prelude.{nat_eq, ◌+◌};
-    ghost use Rattle.template_core.specs.Repertoire.{none};
     ghost use Rattle.template_core.specs.declared.kind.Kind.TheVariants.{NotCoExistence as the_kind};
-    ghost use Rattle.template_core.specs.Tests.{has};
-    ghost use Rattle.template_core.proofs.Parts.{each_of_both, at_first_sum};
-    ghost use Rattle.template_core.proofs.Runs.{apart};
-    ghost use Rattle.templates_neg.specs.NotCoExistence.{next_after, accepts};
-    ghost use Rattle.templates_neg.specs.NotCoExistenceLaw.{kept};
+    ghost use Rattle.templates_neg.specs.NotCoExistence.{meaning};
+    ghost use Rattle.templates_neg.specs.NotCoExistenceLaw.{kept, told};
+
+    ghost meaning = { meaning };
+
+    ghost laws = { (kept, told, refl) };
 
     ghost ARITY = { 2 };
 
     const ARITY: u8 = 2;
 
-    ghost in_use = { Unit {0} };
+    ghost KIND = { the_kind };
 
-    ghost kind = { the_kind };
-
-    ghost state_count = { 4 };
-
-    ghost start_state = { 0 };
-
-    ghost next_state = { next_after };
-
-    ghost is_accepting = { accepts };
-
-    ghost activations_by = { λ counts. counts.first.occurrences + counts.second.occurrences };
-
-    ghost fulfilled_by = { λ counts. counts.onward.without + counts.back.without };
-
-    ghost arity_told = { λ used. refl };
-
-    ghost accepts_kept = { λ used. kept };
-
-    ghost counts_activated = { λ used a b log differ. each_of_both nat_eq a b (apart a b differ) log };
-
-    ghost counts_fulfilled = { λ used a b log differ. at_first_sum nat_eq a b (apart a b differ) (none nat_eq (has nat_eq b)) (none nat_eq (has nat_eq a)) log };
-
-    fn number() -> u8 {
-        number_of(Kind::NotCoExistence)
-    }
+    const KIND: Kind = Kind::NotCoExistence;
 
     fn states() -> u8 {
         4
-    }
-
-    fn start() -> u8 {
-        0
     }
 
     fn step(state: u8, class: Class) -> u8 {
@@ -64,10 +35,6 @@ impl Template for NotCoExistence {
 
     fn accepting(state: u8) -> bool {
         state != 3
-    }
-
-    fn activations(counts: &Counts) -> u64 {
-        counts.first.occurrences + counts.second.occurrences
     }
 
     fn fulfilled(counts: &Counts) -> u64 {

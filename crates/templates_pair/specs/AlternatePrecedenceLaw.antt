@@ -1,35 +1,28 @@
 -- The automaton of AlternatePrecedence accepts the traces that keep it.
-use Rattle.std.proofs.Common.{◌≡◌, ◌≢◌, ◌↔◌, ℕ, ◌+◌, List, [], ◌∷◌, ◌++◌, Bool, true, false, ◌&&◌, ◌||◌, not, cond, eqb, IsTrue, nat_eq, refl, sym, ap, ◌∙◌, arith}
-use Rattle.std.proofs.lemmas.Bool.{false≢true}
+use Rattle.std.proofs.Common.{◌≡◌, ℕ, ◌+◌, List, [], ◌∷◌, ◌++◌, Bool, true, false, ◌&&◌, ◌||◌, not, cond, eqb, nat_eq, refl, ap, ◌∙◌, arith}
 use Rattle.std.proofs.lemmas.Bool.Decides.{nat_tests}
+use Rattle.template_core.proofs.Broken.{said, accepts-said}
+use Rattle.template_core.specs.Recognition.{Recognises, TellsFulfilled}
+use Rattle.template_core.proofs.Parts.{each_alternating_earlier}
 use Rattle.template_core.specs.Events.{one_if, occurs, after_last}
 use Rattle.template_core.specs.Tests.{failing}
-use Rattle.template_core.specs.Repertoire.{Keeps, each, alternates_earlier}
+use Rattle.template_core.specs.Repertoire.{each, alternates_earlier}
 use Rattle.template_core.specs.declared.kind.Kind.TheVariants.{AlternatePrecedence}
 use Rattle.template_core.proofs.Places.{count_events-nil}
 use Rattle.template_core.proofs.Counters.{failing-snoc, occurs-snoc, occurs-after_last}
-use Rattle.template_core.specs.Automaton.{run, class_of}
+use Rattle.template_core.specs.Automaton.{class_of}
 use Rattle.template_core.specs.declared.class.Class.TheVariants.{First, Second, Other}
-use Rattle.template_core.proofs.Runs.{law, apart}
-use Rattle.templates_pair.specs.AlternatePrecedence.{next_after, accepts}
+use Rattle.template_core.proofs.Runs.{law, apart, by_class}
+use Rattle.templates_pair.specs.AlternatePrecedence.{next_after, accepts, meaning}
 
-abbrev said : ℕ → Bool → ℕ
-said broken ready = cond (eqb broken 0) (one_if ready) 2
+abbrev Says : ℕ → Bool → Bool → Bool → Type 0
+Says n o v w = said (n + one_if (w && not o)) (cond v true (cond w false o)) ≡ next_after (said n o) (cond v First (cond w Second Other))
 
-step : (n : ℕ) (o v w : Bool) → (v ≡ true → w ≡ false) → said (n + one_if (w && not o)) (cond v true (cond w false o)) ≡ next_after (said n o) (cond v First (cond w Second Other))
-step n o true true h = absurd (false≢true (sym (h refl)))
-step n true true false h = grind (arith, nat_tests)
-step n false true false h = grind (arith, nat_tests)
-step n true false true h = grind (arith, nat_tests)
-step n false false true h = grind (arith, nat_tests)
-step n true false false h = grind (arith, nat_tests)
-step n false false false h = grind (arith, nat_tests)
+step : (n : ℕ) (o v w : Bool) → (v ≡ true → w ≡ false) → Says n o v w
+step n true = by_class (Says n true) (grind (arith, nat_tests)) (grind (arith, nat_tests)) (grind (arith, nat_tests))
+step n false = by_class (Says n false) (grind (arith, nat_tests)) (grind (arith, nat_tests)) (grind (arith, nat_tests))
 
-accepts-said : (n : ℕ) (o : Bool) → accepts (said n o) ≡ eqb n 0
-accepts-said n true = grind (arith, nat_tests)
-accepts-said n false = grind (arith, nat_tests)
-
-pub kept : (a b : ℕ) (trace : List ℕ) → a ≢ b → IsTrue (accepts (run next_after 0 a b trace)) ↔ Keeps nat_eq AlternatePrecedence a b trace
+pub kept : Recognises meaning AlternatePrecedence
 kept a b trace differ =
     law next_after accepts 0 a b (each nat_eq b) (alternates_earlier nat_eq a b) says at_start each_event trace
     (accepts-said (broken trace) (ready trace))
@@ -67,3 +60,7 @@ kept a b trace differ =
         ap (λ n. said n (ready (t ++ x ∷ []))) (failing-snoc nat_eq b (alternates_earlier nat_eq a b) t x)
         ∙ ap (said (broken t + one_if (eqb x b && not (ready t)))) (ready-snoc t x)
         ∙ step (broken t) (ready t) (eqb x a) (eqb x b) (apart a b differ x)
+
+-- the counters tell the fulfilled places
+pub told : TellsFulfilled meaning AlternatePrecedence
+told a b log differ = each_alternating_earlier nat_eq a b log

@@ -1,20 +1,21 @@
 -- The automaton of AlternateSuccession accepts the traces that keep it.
-use Rattle.std.proofs.Common.{◌≡◌, ◌≢◌, ◌↔◌, ℕ, ◌+◌, ◌-◌, List, [], ◌∷◌, ◌++◌, Bool, true, false, ◌&&◌, ◌||◌, not, cond, eqb, ltb, IsTrue, nat_eq, refl, sym, ap, ◌∙◌, arith}
+use Rattle.std.proofs.Common.{◌≡◌, ℕ, ◌+◌, ◌-◌, List, [], ◌∷◌, ◌++◌, Bool, true, false, ◌&&◌, ◌||◌, not, cond, eqb, ltb, nat_eq, refl, sym, ap, ◌∙◌, arith}
 use Rattle.std.proofs.lemmas.Bool.{false≢true}
 use Rattle.std.proofs.lemmas.Bool.Decides.{nat_tests}
+use Rattle.template_core.specs.Recognition.{Recognises, TellsFulfilled}
 use Rattle.template_core.specs.Events.{one_if, occurs, after_last}
 use Rattle.template_core.specs.Tests.{failing, has_later, repeats_later}
 use Rattle.template_core.specs.Counters.{no_later, rep_later}
-use Rattle.template_core.specs.Repertoire.{Keeps, each_of, at_first, alternates_earlier, alternates_later}
+use Rattle.template_core.specs.Repertoire.{each_of, at_first, alternates_earlier, alternates_later}
 use Rattle.template_core.specs.declared.kind.Kind.TheVariants.{AlternateSuccession}
 use Rattle.template_core.proofs.Places.{snoc_induction, count_events-nil}
 use Rattle.template_core.proofs.Counters.{failing-snoc, occurs-snoc, occurs-after_last, no_later-snoc}
 use Rattle.template_core.proofs.Pairs.{rep_later-snoc}
-use Rattle.template_core.proofs.Parts.{at_first-failing, failing-alternates_later}
-use Rattle.template_core.specs.Automaton.{run, class_of}
+use Rattle.template_core.proofs.Parts.{at_first-failing, failing-alternates_later, each_of_alternating}
+use Rattle.template_core.specs.Automaton.{class_of}
 use Rattle.template_core.specs.declared.class.Class.TheVariants.{First, Second, Other}
 use Rattle.template_core.proofs.Runs.{law, apart}
-use Rattle.templates_pair.specs.AlternateSuccession.{next_after, accepts}
+use Rattle.templates_pair.specs.AlternateSuccession.{next_after, accepts, meaning}
 
 abbrev said : ℕ → ℕ → ℕ → ℕ
 said waiting repeated broken = cond (eqb (repeated + broken) 0) (cond (eqb waiting 0) 0 (cond (eqb waiting 1) 1 2)) 2
@@ -29,7 +30,7 @@ step n r k false false h = grind (arith, nat_tests)
 accepts-said : (n r k : ℕ) → accepts (said n r k) ≡ eqb ((n + r) + k) 0
 accepts-said n r k = grind (arith, nat_tests)
 
-pub kept : (a b : ℕ) (trace : List ℕ) → a ≢ b → IsTrue (accepts (run next_after 0 a b trace)) ↔ Keeps nat_eq AlternateSuccession a b trace
+pub kept : Recognises meaning AlternateSuccession
 kept a b trace differ =
     law next_after accepts 0 a b (each_of nat_eq a b) (at_first nat_eq a (alternates_later nat_eq a b) (alternates_earlier nat_eq a b)) says at_start each_event trace
     (accepts-said (no_later nat_eq a b trace) (rep_later nat_eq a b trace) (broken trace)
@@ -82,3 +83,7 @@ kept a b trace differ =
         ∙ ap (said (cond (eqb x b) 0 (no_later nat_eq a b t) + one_if (eqb x a)) (rep_later nat_eq a b t + cond (eqb x b) (no_later nat_eq a b t - 1) 0))
         (failing-snoc nat_eq b (alternates_earlier nat_eq a b) t x ∙ ap (λ v. broken t + one_if (eqb x b && not v)) (ready-waits t))
         ∙ step (no_later nat_eq a b t) (rep_later nat_eq a b t) (broken t) (eqb x a) (eqb x b) (apart a b differ x)
+
+-- the counters tell the fulfilled places
+pub told : TellsFulfilled meaning AlternateSuccession
+told a b log differ = each_of_alternating nat_eq a b (apart a b differ) log

@@ -1,35 +1,28 @@
 -- The automaton of ChainPrecedence accepts the traces that keep it.
-use Rattle.std.proofs.Common.{◌≡◌, ◌≢◌, ◌↔◌, ℕ, ◌+◌, List, [], ◌∷◌, ◌++◌, Bool, true, false, ◌&&◌, not, cond, eqb, IsTrue, nat_eq, refl, sym, ap, ◌∙◌, arith}
-use Rattle.std.proofs.lemmas.Bool.{false≢true}
+use Rattle.std.proofs.Common.{◌≡◌, ℕ, ◌+◌, List, [], ◌∷◌, ◌++◌, Bool, true, false, ◌&&◌, not, cond, eqb, nat_eq, ap, ◌∙◌, arith}
 use Rattle.std.proofs.lemmas.Bool.Decides.{nat_tests}
+use Rattle.template_core.proofs.Broken.{said, accepts-said}
+use Rattle.template_core.specs.Recognition.{Recognises, TellsFulfilled}
+use Rattle.template_core.proofs.Parts.{each_passing}
 use Rattle.template_core.specs.Events.{one_if, is_last}
 use Rattle.template_core.specs.Tests.{failing, has_previous}
-use Rattle.template_core.specs.Repertoire.{Keeps, each}
+use Rattle.template_core.specs.Repertoire.{each}
 use Rattle.template_core.specs.declared.kind.Kind.TheVariants.{ChainPrecedence}
 use Rattle.template_core.proofs.Places.{count_events-nil}
 use Rattle.template_core.proofs.Counters.{failing-snoc, is_last-snoc}
 use Rattle.template_core.specs.Automaton.{run, class_of}
 use Rattle.template_core.specs.declared.class.Class.TheVariants.{First, Second, Other}
-use Rattle.template_core.proofs.Runs.{run_is, keeps_by, apart}
-use Rattle.templates_pair.specs.ChainPrecedence.{next_after, accepts}
+use Rattle.template_core.proofs.Runs.{run_is, keeps_by, apart, by_class}
+use Rattle.templates_pair.specs.ChainPrecedence.{next_after, accepts, meaning}
 
-abbrev said : ℕ → Bool → ℕ
-said broken last = cond (eqb broken 0) (one_if last) 2
+abbrev Says : ℕ → Bool → Bool → Bool → Type 0
+Says n l v w = said (n + one_if (w && not l)) v ≡ next_after (said n l) (cond v First (cond w Second Other))
 
-step : (n : ℕ) (l v w : Bool) → (v ≡ true → w ≡ false) → said (n + one_if (w && not l)) v ≡ next_after (said n l) (cond v First (cond w Second Other))
-step n l true true h = absurd (false≢true (sym (h refl)))
-step n true true false h = grind (arith, nat_tests)
-step n false true false h = grind (arith, nat_tests)
-step n true false true h = grind (arith, nat_tests)
-step n false false true h = grind (arith, nat_tests)
-step n true false false h = grind (arith, nat_tests)
-step n false false false h = grind (arith, nat_tests)
+step : (n : ℕ) (l v w : Bool) → (v ≡ true → w ≡ false) → Says n l v w
+step n true = by_class (Says n true) (grind (arith, nat_tests)) (grind (arith, nat_tests)) (grind (arith, nat_tests))
+step n false = by_class (Says n false) (grind (arith, nat_tests)) (grind (arith, nat_tests)) (grind (arith, nat_tests))
 
-accepts-said : (n : ℕ) (l : Bool) → accepts (said n l) ≡ eqb n 0
-accepts-said n true = grind (arith, nat_tests)
-accepts-said n false = grind (arith, nat_tests)
-
-pub kept : (a b : ℕ) (trace : List ℕ) → a ≢ b → IsTrue (accepts (run next_after 0 a b trace)) ↔ Keeps nat_eq ChainPrecedence a b trace
+pub kept : Recognises meaning ChainPrecedence
 kept a b trace differ =
     keeps_by (each nat_eq b) (has_previous nat_eq a) trace (accepts (run next_after 0 a b trace))
     (ap accepts (run_is next_after 0 a b says at_start each_event trace) ∙ accepts-said (broken trace) (is_last nat_eq a trace))
@@ -48,3 +41,7 @@ kept a b trace differ =
         ap (λ n. said n (is_last nat_eq a (t ++ x ∷ []))) (failing-snoc nat_eq b (has_previous nat_eq a) t x)
         ∙ ap (said (broken t + one_if (eqb x b && not (is_last nat_eq a t)))) (is_last-snoc nat_eq a t x)
         ∙ step (broken t) (is_last nat_eq a t) (eqb x a) (eqb x b) (apart a b differ x)
+
+-- the counters tell the fulfilled places
+pub told : TellsFulfilled meaning ChainPrecedence
+told a b log differ = each_passing nat_eq b (has_previous nat_eq a) log

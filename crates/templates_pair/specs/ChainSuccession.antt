@@ -1,6 +1,8 @@
 -- The automaton of ChainSuccession: the state after an event, and which states accept.
-use Rattle.std.specs.Prelude.{◌==◌, ℕ, Bool, cond}
+use Rattle.std.proofs.Common.{arith}
+use Rattle.std.specs.Prelude.{◌==◌, ℕ, Bool, cond, ◌+◌}
 use Rattle.template_core.specs.declared.class.Class.{Class}
+use Rattle.template_core.specs.Automaton.{TemplateMeaning}
 use Rattle.template_core.specs.declared.class.Class.TheVariants.{First, Second, Other}
 
 -- 0: the last event is no a; 1: it is; 2: the order was broken
@@ -11,3 +13,6 @@ next_after state Other = cond (state == 0) 0 2
 
 abbrev pub accepts : ℕ → Bool
 accepts state = state == 0
+
+abbrev pub meaning : TemplateMeaning
+meaning = record { fulfilled_by = λ counts. counts.onward.next + counts.back.previous; states = 3; some_states = omega arith; next = next_after; accepts = accepts }

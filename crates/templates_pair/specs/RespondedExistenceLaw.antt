@@ -1,17 +1,19 @@
 -- The automaton of RespondedExistence accepts the traces that keep it.
-use Rattle.std.proofs.Common.{◌≡◌, ◌≢◌, ◌↔◌, ℕ, List, [], ◌∷◌, ◌++◌, Bool, true, false, ◌||◌, not, cond, eqb, IsTrue, nat_eq, refl, sym, ap, ◌∙◌}
+use Rattle.std.proofs.Common.{◌≡◌, ℕ, List, [], ◌∷◌, ◌++◌, Bool, true, false, ◌||◌, not, cond, eqb, nat_eq, refl, sym, ap, ◌∙◌}
 use Rattle.std.proofs.lemmas.Bool.{false≢true}
+use Rattle.template_core.specs.Recognition.{Recognises, TellsFulfilled}
+use Rattle.template_core.proofs.Parts.{each_not_failing}
 use Rattle.template_core.specs.Events.{one_if, occurs}
 use Rattle.template_core.specs.Tests.{has}
 use Rattle.template_core.specs.Counters.{occurrences}
-use Rattle.template_core.specs.Repertoire.{Keeps, each}
+use Rattle.template_core.specs.Repertoire.{each}
 use Rattle.template_core.specs.declared.kind.Kind.TheVariants.{RespondedExistence}
 use Rattle.template_core.proofs.Counters.{occurs-snoc}
 use Rattle.template_core.proofs.Gains.{without-is, occurs-count}
-use Rattle.template_core.specs.Automaton.{run, class_of}
+use Rattle.template_core.specs.Automaton.{class_of}
 use Rattle.template_core.specs.declared.class.Class.TheVariants.{First, Second, Other}
 use Rattle.template_core.proofs.Runs.{law, apart}
-use Rattle.templates_pair.specs.RespondedExistence.{next_after, accepts}
+use Rattle.templates_pair.specs.RespondedExistence.{next_after, accepts, meaning}
 
 abbrev said : Bool → Bool → ℕ
 said first second = cond second 2 (one_if first)
@@ -35,7 +37,7 @@ accepts-said p true n e = refl
 accepts-said true false n e = sym e
 accepts-said false false n e = sym e
 
-pub kept : (a b : ℕ) (trace : List ℕ) → a ≢ b → IsTrue (accepts (run next_after 0 a b trace)) ↔ Keeps nat_eq RespondedExistence a b trace
+pub kept : Recognises meaning RespondedExistence
 kept a b trace differ =
     law next_after accepts 0 a b (each nat_eq a) (has nat_eq b) says at_start each_event trace
     (accepts-said (occurs nat_eq a trace) (occurs nat_eq b trace) (occurrences nat_eq a trace) (occurs-count nat_eq a trace)
@@ -52,3 +54,7 @@ kept a b trace differ =
         ap (λ v. said v (occurs nat_eq b (t ++ x ∷ []))) (occurs-snoc nat_eq a t x)
         ∙ ap (said (occurs nat_eq a t || eqb x a)) (occurs-snoc nat_eq b t x)
         ∙ step (occurs nat_eq a t) (occurs nat_eq b t) (eqb x a) (eqb x b) (apart a b differ x)
+
+-- the counters tell the fulfilled places
+pub told : TellsFulfilled meaning RespondedExistence
+told a b log differ = each_not_failing nat_eq a (has nat_eq b) log

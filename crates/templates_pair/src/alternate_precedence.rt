@@ -1,54 +1,28 @@
-use template_core::{Class, Counts, Kind, Template, number_of};
+use template_core::{Class, Counts, Kind, Template};
 
 /// Before each b stands an a, with no other b after it.
 pub struct AlternatePrecedence;
 
 impl Template for AlternatePrecedence {
     ghost use Rattle.std.proofs.Common.{refl};
-    ghost use Rattle.std.specs.Prelude.{nat_eq, ◌-◌};
     ghost use Rattle.template_core.specs.declared.kind.Kind.TheVariants.{AlternatePrecedence as the_kind};
-    ghost use Rattle.template_core.proofs.Parts.{each_a, each_alternating_earlier};
-    ghost use Rattle.templates_pair.specs.AlternatePrecedence.{next_after, accepts};
-    ghost use Rattle.templates_pair.specs.AlternatePrecedenceLaw.{kept};
+    ghost use Rattle.templates_pair.specs.AlternatePrecedence.{meaning};
+    ghost use Rattle.templates_pair.specs.AlternatePrecedenceLaw.{kept, told};
+
+    ghost meaning = { meaning };
+
+    ghost laws = { (kept, told, refl) };
 
     ghost ARITY = { 2 };
 
     const ARITY: u8 = 2;
 
-    ghost in_use = { Unit {0} };
+    ghost KIND = { the_kind };
 
-    ghost kind = { the_kind };
-
-    ghost state_count = { 3 };
-
-    ghost start_state = { 0 };
-
-    ghost next_state = { next_after };
-
-    ghost is_accepting = { accepts };
-
-    ghost activations_by = { λ counts. counts.second.occurrences };
-
-    ghost fulfilled_by = { λ counts. counts.second.occurrences - counts.back.no_earlier - counts.back.rep_earlier };
-
-    ghost arity_told = { λ used. refl };
-
-    ghost accepts_kept = { λ used. kept };
-
-    ghost counts_activated = { λ used a b log differ. each_a nat_eq b log };
-
-    ghost counts_fulfilled = { λ used a b log differ. each_alternating_earlier nat_eq a b log };
-
-    fn number() -> u8 {
-        number_of(Kind::AlternatePrecedence)
-    }
+    const KIND: Kind = Kind::AlternatePrecedence;
 
     fn states() -> u8 {
         3
-    }
-
-    fn start() -> u8 {
-        0
     }
 
     fn step(state: u8, class: Class) -> u8 {
@@ -61,10 +35,6 @@ impl Template for AlternatePrecedence {
 
     fn accepting(state: u8) -> bool {
         state != 2
-    }
-
-    fn activations(counts: &Counts) -> u64 {
-        counts.second.occurrences
     }
 
     fn fulfilled(counts: &Counts) -> u64 {

@@ -1,55 +1,28 @@
-use template_core::{Class, Counts, Kind, Template, number_of};
+use template_core::{Class, Counts, Kind, Template};
 
 /// Before each b stands an a.
 pub struct Precedence;
 
 impl Template for Precedence {
     ghost use Rattle.std.proofs.Common.{refl};
-    ghost use Rattle.std.specs.Prelude.{nat_eq, ◌-◌};
     ghost use Rattle.template_core.specs.declared.kind.Kind.TheVariants.{Precedence as the_kind};
-    ghost use Rattle.template_core.specs.Tests.{has_earlier};
-    ghost use Rattle.template_core.proofs.Parts.{each_a, each_not_failing};
-    ghost use Rattle.templates_pair.specs.Precedence.{next_after, accepts};
-    ghost use Rattle.templates_pair.specs.PrecedenceLaw.{kept};
+    ghost use Rattle.templates_pair.specs.Precedence.{meaning};
+    ghost use Rattle.templates_pair.specs.PrecedenceLaw.{kept, told};
+
+    ghost meaning = { meaning };
+
+    ghost laws = { (kept, told, refl) };
 
     ghost ARITY = { 2 };
 
     const ARITY: u8 = 2;
 
-    ghost in_use = { Unit {0} };
+    ghost KIND = { the_kind };
 
-    ghost kind = { the_kind };
-
-    ghost state_count = { 3 };
-
-    ghost start_state = { 0 };
-
-    ghost next_state = { next_after };
-
-    ghost is_accepting = { accepts };
-
-    ghost activations_by = { λ counts. counts.second.occurrences };
-
-    ghost fulfilled_by = { λ counts. counts.second.occurrences - counts.back.no_earlier };
-
-    ghost arity_told = { λ used. refl };
-
-    ghost accepts_kept = { λ used. kept };
-
-    ghost counts_activated = { λ used a b log differ. each_a nat_eq b log };
-
-    ghost counts_fulfilled = { λ used a b log differ. each_not_failing nat_eq b (has_earlier nat_eq a) log };
-
-    fn number() -> u8 {
-        number_of(Kind::Precedence)
-    }
+    const KIND: Kind = Kind::Precedence;
 
     fn states() -> u8 {
         3
-    }
-
-    fn start() -> u8 {
-        0
     }
 
     fn step(state: u8, class: Class) -> u8 {
@@ -62,10 +35,6 @@ impl Template for Precedence {
 
     fn accepting(state: u8) -> bool {
         state != 2
-    }
-
-    fn activations(counts: &Counts) -> u64 {
-        counts.second.occurrences
     }
 
     fn fulfilled(counts: &Counts) -> u64 {

@@ -1,55 +1,28 @@
-use template_core::{Class, Counts, Kind, Template, number_of};
+use template_core::{Class, Counts, Kind, Template};
 
 /// Each a is followed by a b.
 pub struct Response;
 
 impl Template for Response {
     ghost use Rattle.std.proofs.Common.{refl};
-    ghost use Rattle.std.specs.Prelude.{nat_eq, ◌-◌};
     ghost use Rattle.template_core.specs.declared.kind.Kind.TheVariants.{Response as the_kind};
-    ghost use Rattle.template_core.specs.Tests.{has_later};
-    ghost use Rattle.template_core.proofs.Parts.{each_a, each_not_failing};
-    ghost use Rattle.templates_pair.specs.Response.{next_after, accepts};
-    ghost use Rattle.templates_pair.specs.ResponseLaw.{kept};
+    ghost use Rattle.templates_pair.specs.Response.{meaning};
+    ghost use Rattle.templates_pair.specs.ResponseLaw.{kept, told};
+
+    ghost meaning = { meaning };
+
+    ghost laws = { (kept, told, refl) };
 
     ghost ARITY = { 2 };
 
     const ARITY: u8 = 2;
 
-    ghost in_use = { Unit {0} };
+    ghost KIND = { the_kind };
 
-    ghost kind = { the_kind };
-
-    ghost state_count = { 2 };
-
-    ghost start_state = { 0 };
-
-    ghost next_state = { next_after };
-
-    ghost is_accepting = { accepts };
-
-    ghost activations_by = { λ counts. counts.first.occurrences };
-
-    ghost fulfilled_by = { λ counts. counts.first.occurrences - counts.onward.no_later };
-
-    ghost arity_told = { λ used. refl };
-
-    ghost accepts_kept = { λ used. kept };
-
-    ghost counts_activated = { λ used a b log differ. each_a nat_eq a log };
-
-    ghost counts_fulfilled = { λ used a b log differ. each_not_failing nat_eq a (has_later nat_eq b) log };
-
-    fn number() -> u8 {
-        number_of(Kind::Response)
-    }
+    const KIND: Kind = Kind::Response;
 
     fn states() -> u8 {
         2
-    }
-
-    fn start() -> u8 {
-        0
     }
 
     fn step(state: u8, class: Class) -> u8 {
@@ -62,10 +35,6 @@ impl Template for Response {
 
     fn accepting(state: u8) -> bool {
         state == 0
-    }
-
-    fn activations(counts: &Counts) -> u64 {
-        counts.first.occurrences
     }
 
     fn fulfilled(counts: &Counts) -> u64 {

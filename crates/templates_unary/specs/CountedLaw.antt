@@ -1,5 +1,5 @@
 -- The automata of the templates that count accept the traces that keep them, and the counters tell how many do.
-use Rattle.std.proofs.Common.{◌≡◌, ◌↔◌, ℕ, zero, suc, ◌+◌, ◌-◌, ◌<◌, ◌≤◌, ◌&&◌, not, length, sum_by, count_by, slice_index_or, min, sym, arith, nat_lt, nat_le, List, [], ◌∷◌, ◌++◌, Bool, true, false, cond, eqb, IsTrue, nat_eq, ap, subst, ◌∙◌}
+use Rattle.std.proofs.Common.{◌≡◌, ◌↔◌, ℕ, zero, suc, ◌+◌, ◌-◌, ◌<◌, ◌≤◌, not, length, count_by, slice_index_or, min, sym, arith, nat_lt, nat_le, List, [], ◌∷◌, ◌++◌, Bool, true, false, cond, eqb, IsTrue, nat_eq, ap, subst, ◌∙◌}
 use Rattle.std.proofs.lemmas.Bool.Decides.{nat_tests}
 use Rattle.std.proofs.lemmas.List.FromFn.{get_or-map-range_with_len}
 use Rattle.template_core.proofs.Counters.{occurrences-snoc}
@@ -12,15 +12,15 @@ use Rattle.template_core.proofs.Wholes.{keeps_whole, whole_fulfilled}
 use Rattle.template_core.specs.Automaton.{run, class_of}
 use Rattle.template_core.specs.Counters.{occurrences}
 use Rattle.template_core.specs.Counts.{AreCounts, unary_counts}
-use Rattle.template_core.specs.Events.{one_if, count_places, occurs}
-use Rattle.template_core.specs.Repertoire.{Keeps}
+use Rattle.template_core.specs.Events.{one_if, occurs}
+use Rattle.template_core.specs.Recognition.{Recognises, TellsFulfilled}
 use Rattle.template_core.specs.declared.class.Class.{Class}
 use Rattle.template_core.specs.declared.class.Class.TheVariants.{First, Second, Other}
 use Rattle.template_core.specs.declared.counts.Counts.{Counts}
 use Rattle.template_core.specs.declared.counts.UnaryCounts.{UnaryCounts}
 use Rattle.template_core.specs.declared.kind.Kind.{Kind}
 use Rattle.template_core.specs.declared.kind.Kind.TheVariants.{Exactly, AtLeast, AtMost}
-use Rattle.templates_unary.specs.Counted.{next_after, accepts_at, accepts_below, more_than}
+use Rattle.templates_unary.specs.Counted.{next_after, accepts_at, accepts_below, exactly, at_least, at_most, more_than}
 
 -- an automaton whose state is the number of a's so far, up to the top, tells of a trace what its states tell of that number
 module _ (next : ℕ → Class → ℕ) (top : ℕ) (step : (n : ℕ) (v w : Bool) → min (n + one_if v) top ≡ next (min n top) (cond v First (cond w Second Other))) where
@@ -46,20 +46,20 @@ step top n true w = grind (arith, nat_tests)
 step top n false true = grind (arith, nat_tests)
 step top n false false = grind (arith, nat_tests)
 
-pub exactly_kept : (n a b : ℕ) (trace : List ℕ) → IsTrue (accepts_at n (run (next_after (n + 1)) 0 a b trace)) ↔ Keeps nat_eq (Exactly n) a b trace
-exactly_kept n = kept_by (next_after (n + 1)) (n + 1) (step (n + 1)) (accepts_at n) (λ k. eqb k n) says
+pub exactly_kept : (n : ℕ) → Recognises (exactly n) (Exactly n)
+exactly_kept n a b trace made = kept_by (next_after (n + 1)) (n + 1) (step (n + 1)) (accepts_at n) (λ k. eqb k n) says a b trace
   where
     says : (k : ℕ) → accepts_at n (min k (n + 1)) ≡ eqb k n
     says k = grind (arith, nat_tests)
 
-pub at_least_kept : (n a b : ℕ) (trace : List ℕ) → IsTrue (accepts_at n (run (next_after n) 0 a b trace)) ↔ Keeps nat_eq (AtLeast n) a b trace
-at_least_kept n = kept_by (next_after n) n (step n) (accepts_at n) (λ k. nat_le n k) says
+pub at_least_kept : (n : ℕ) → Recognises (at_least n) (AtLeast n)
+at_least_kept n a b trace made = kept_by (next_after n) n (step n) (accepts_at n) (λ k. nat_le n k) says a b trace
   where
     says : (k : ℕ) → accepts_at n (min k n) ≡ nat_le n k
     says k = grind (arith, nat_tests)
 
-pub at_most_kept : (n a b : ℕ) (trace : List ℕ) → IsTrue (accepts_below (n + 1) (run (next_after (n + 1)) 0 a b trace)) ↔ Keeps nat_eq (AtMost n) a b trace
-at_most_kept n = kept_by (next_after (n + 1)) (n + 1) (step (n + 1)) (accepts_below (n + 1)) (λ k. nat_le k n) says
+pub at_most_kept : (n : ℕ) → Recognises (at_most n) (AtMost n)
+at_most_kept n a b trace made = kept_by (next_after (n + 1)) (n + 1) (step (n + 1)) (accepts_below (n + 1)) (λ k. nat_le k n) says a b trace
   where
     says : (k : ℕ) → accepts_below (n + 1) (min k (n + 1)) ≡ nat_le k n
     says k = grind (arith, nat_tests)
@@ -88,32 +88,30 @@ module _ (a : ℕ) (log : List (List ℕ)) where
   within_log : (k : ℕ) → k < 9 → slice_index_or (unary_counts a log).exact k 0 ≤ more_than (unary_counts a log) k
   within_log k h = omega (arith, more_is k (omega arith), exact_is k h, one_more k)
 
-  pub exactly_told : (n : ℕ) → 1 ≤ n → n ≤ 9 → slice_index_or (unary_counts a log).exact (n - 1) 0
-      ≡ sum_by (λ trace. count_places (λ place. eqb place (length trace) && eqb (occurrences nat_eq a trace) n) (suc (length trace))) log
-  exactly_told n some few =
-      exact_is (n - 1) (omega arith)
-      ∙ ap (λ k. with (λ m. eqb m k)) (omega arith)
-      ∙ whole_fulfilled (λ trace. eqb (occurrences nat_eq a trace) n) log
+-- the counters tell the fulfilled places
+pub exactly_told : (n : ℕ) → TellsFulfilled (exactly n) (Exactly n)
+exactly_told n a b log made =
+    exact_is a log (n - 1) (omega (arith, made.1.0, made.1.1))
+    ∙ ap (λ k. with a log (λ m. eqb m k)) (omega (arith, made.1.0))
+    ∙ whole_fulfilled (λ trace. eqb (occurrences nat_eq a trace) n) log
 
-  pub at_least_told : (n : ℕ) → 1 ≤ n → n ≤ 9 → more_than (unary_counts a log) (n - 1)
-      ≡ sum_by (λ trace. count_places (λ place. eqb place (length trace) && nat_le n (occurrences nat_eq a trace)) (suc (length trace))) log
-  at_least_told n some few =
-      more_is (n - 1) (omega arith)
-      ∙ sum_by-same _ _ (λ trace. ap (λ v. cond v 1 0) (each (occurrences nat_eq a trace))) log
-      ∙ whole_fulfilled (λ trace. nat_le n (occurrences nat_eq a trace)) log
-    where
-      each : (m : ℕ) → nat_lt (n - 1) m ≡ nat_le n m
-      each m = grind (arith, nat_tests, some)
+pub at_least_told : (n : ℕ) → TellsFulfilled (at_least n) (AtLeast n)
+at_least_told n a b log made =
+    more_is a log (n - 1) (omega (arith, made.1.1))
+    ∙ sum_by-same _ _ (λ trace. ap (λ v. cond v 1 0) (each (occurrences nat_eq a trace))) log
+    ∙ whole_fulfilled (λ trace. nat_le n (occurrences nat_eq a trace)) log
+  where
+    each : (m : ℕ) → nat_lt (n - 1) m ≡ nat_le n m
+    each m = grind (arith, nat_tests, made.1.0)
 
-  pub at_most_told : (n : ℕ) → n ≤ 9 → length log - more_than (unary_counts a log) n
-      ≡ sum_by (λ trace. count_places (λ place. eqb place (length trace) && nat_le (occurrences nat_eq a trace) n) (suc (length trace))) log
-  at_most_told n few =
-      ap (λ k. length log - k) (more_is n few)
-      ∙ sym (count_by-not (λ trace. nat_le (occurrences nat_eq a trace) n) (λ trace. nat_lt n (occurrences nat_eq a trace)) (λ trace. each (occurrences nat_eq a trace)) log)
-      ∙ whole_fulfilled (λ trace. nat_le (occurrences nat_eq a trace) n) log
-    where
-      each : (m : ℕ) → one_if (nat_le m n) + one_if (nat_lt n m) ≡ 1
-      each m = grind (arith, nat_tests)
+pub at_most_told : (n : ℕ) → TellsFulfilled (at_most n) (AtMost n)
+at_most_told n a b log made =
+    ap (λ k. length log - k) (more_is a log n made.1.1)
+    ∙ sym (count_by-not (λ trace. nat_le (occurrences nat_eq a trace) n) (λ trace. nat_lt n (occurrences nat_eq a trace)) (λ trace. each (occurrences nat_eq a trace)) log)
+    ∙ whole_fulfilled (λ trace. nat_le (occurrences nat_eq a trace) n) log
+  where
+    each : (m : ℕ) → one_if (nat_le m n) + one_if (nat_lt n m) ≡ 1
+    each m = grind (arith, nat_tests)
 
 -- no more traces have exactly k + 1 a's than have more than k
 pub exact_within : (kind : Kind) (counts : Counts) → AreCounts kind counts → (k : ℕ) → k < 9 → slice_index_or counts.first.exact k 0 ≤ more_than counts.first k

@@ -1,14 +1,14 @@
 -- The automaton of Participation accepts the traces that keep it.
-use Rattle.std.proofs.Common.{◌≡◌, ◌↔◌, ℕ, List, [], ◌∷◌, ◌++◌, Bool, true, false, ◌||◌, cond, eqb, IsTrue, nat_eq, refl, ap, ◌∙◌}
+use Rattle.std.proofs.Common.{◌≡◌, ℕ, List, [], ◌∷◌, ◌++◌, Bool, true, false, ◌||◌, cond, eqb, nat_eq, refl, ap, ◌∙◌}
+use Rattle.template_core.specs.Recognition.{Recognises, TellsFulfilled}
 use Rattle.template_core.proofs.Counters.{occurs-snoc}
 use Rattle.template_core.proofs.Runs.{run_is}
-use Rattle.template_core.proofs.Wholes.{keeps_whole}
+use Rattle.template_core.proofs.Wholes.{keeps_whole, whole_fulfilled}
 use Rattle.template_core.specs.Automaton.{run, class_of}
 use Rattle.template_core.specs.Events.{one_if, occurs}
-use Rattle.template_core.specs.Repertoire.{Keeps}
 use Rattle.template_core.specs.declared.class.Class.TheVariants.{First, Second, Other}
 use Rattle.template_core.specs.declared.kind.Kind.TheVariants.{Participation}
-use Rattle.templates_unary.specs.Participation.{next_after, accepts}
+use Rattle.templates_unary.specs.Participation.{next_after, accepts, meaning}
 
 step : (p v w : Bool) → one_if (p || v) ≡ next_after (one_if p) (cond v First (cond w Second Other))
 step true true w = refl
@@ -25,7 +25,7 @@ accepts-says : (p : Bool) → accepts (one_if p) ≡ p
 accepts-says true = refl
 accepts-says false = refl
 
-pub kept : (a b : ℕ) (trace : List ℕ) → a ≡ b → IsTrue (accepts (run next_after 0 a b trace)) ↔ Keeps nat_eq Participation a b trace
+pub kept : Recognises meaning Participation
 kept a b trace made =
     keeps_whole trace (accepts (run next_after 0 a b trace)) (occurs nat_eq a trace)
     (ap accepts (run_is next_after 0 a b says refl each_event trace) ∙ accepts-says (occurs nat_eq a trace))
@@ -35,3 +35,7 @@ kept a b trace made =
 
     each_event : (t : List ℕ) (x : ℕ) → says (t ++ x ∷ []) ≡ next_after (says t) (class_of a b x)
     each_event t x = ap one_if (occurs-snoc nat_eq a t x) ∙ step (occurs nat_eq a t) (eqb x a) (eqb x b)
+
+-- the counters tell the fulfilled places
+pub told : TellsFulfilled meaning Participation
+told a b log made = whole_fulfilled (occurs nat_eq a) log

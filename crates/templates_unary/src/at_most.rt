@@ -1,55 +1,29 @@
 use crate::counting::more_than;
-use template_core::{Class, Counts, Kind, Template, number_of};
+use template_core::{Class, Counts, Kind, Template};
 
 /// The number of events that are a is at most N.
 pub struct AtMost<const N: u8>;
 
 impl<const N: u8> Template for AtMost<N> {
     ghost use Rattle.std.proofs.Common.{refl};
-    ghost use Rattle.template_core.proofs.Wholes.{whole_places};
-    ghost use Rattle.std.specs.Prelude.{◌+◌, ◌-◌, ◌≤◌};
     ghost use Rattle.template_core.specs.declared.kind.Kind.TheVariants.{AtMost as the_kind};
-    ghost use Rattle.templates_unary.specs.Counted.{next_after, accepts_below, more_than};
+    ghost use Rattle.templates_unary.specs.Counted.{at_most};
     ghost use Rattle.templates_unary.specs.CountedLaw.{at_most_kept, at_most_told};
+
+    ghost meaning = { at_most N };
+
+    ghost laws = { (at_most_kept N, at_most_told N, refl) };
 
     ghost ARITY = { 1 };
 
     const ARITY: u8 = 1;
 
-    ghost in_use = { (1 ≤ N) × (N ≤ 9) };
+    ghost KIND = { the_kind N };
 
-    ghost kind = { the_kind N };
-
-    ghost state_count = { N + 2 };
-
-    ghost start_state = { 0 };
-
-    ghost next_state = { next_after (N + 1) };
-
-    ghost is_accepting = { accepts_below (N + 1) };
-
-    ghost activations_by = { λ counts. counts.traces };
-
-    ghost fulfilled_by = { λ counts. counts.traces - more_than counts.first N };
-
-    ghost arity_told = { λ used. refl };
-
-    ghost accepts_kept = { λ used a b trace made. at_most_kept N a b trace };
-
-    ghost counts_activated = { λ used a b log made. whole_places log };
-
-    ghost counts_fulfilled = { λ used a b log made. at_most_told a log N used.1 };
-
-    fn number() -> u8 {
-        number_of(Kind::AtMost { n: N })
-    }
+    const KIND: Kind = Kind::AtMost { n: N };
 
     fn states() -> u8 {
         N + 2
-    }
-
-    fn start() -> u8 {
-        0
     }
 
     fn step(state: u8, class: Class) -> u8 {
@@ -61,10 +35,6 @@ impl<const N: u8> Template for AtMost<N> {
 
     fn accepting(state: u8) -> bool {
         state != N + 1
-    }
-
-    fn activations(counts: &Counts) -> u64 {
-        counts.traces
     }
 
     fn fulfilled(counts: &Counts) -> u64 {

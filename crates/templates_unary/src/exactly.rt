@@ -1,54 +1,28 @@
-use template_core::{Class, Counts, Kind, Template, number_of};
+use template_core::{Class, Counts, Kind, Template};
 
 /// The number of events that are a is N.
 pub struct Exactly<const N: u8>;
 
 impl<const N: u8> Template for Exactly<N> {
     ghost use Rattle.std.proofs.Common.{refl};
-    ghost use Rattle.template_core.proofs.Wholes.{whole_places};
-    ghost use Rattle.std.specs.Prelude.{◌+◌, ◌-◌, ◌≤◌, slice_index_or};
     ghost use Rattle.template_core.specs.declared.kind.Kind.TheVariants.{Exactly as the_kind};
-    ghost use Rattle.templates_unary.specs.Counted.{next_after, accepts_at};
+    ghost use Rattle.templates_unary.specs.Counted.{exactly};
     ghost use Rattle.templates_unary.specs.CountedLaw.{exactly_kept, exactly_told};
+
+    ghost meaning = { exactly N };
+
+    ghost laws = { (exactly_kept N, exactly_told N, refl) };
 
     ghost ARITY = { 1 };
 
     const ARITY: u8 = 1;
 
-    ghost in_use = { (1 ≤ N) × (N ≤ 9) };
+    ghost KIND = { the_kind N };
 
-    ghost kind = { the_kind N };
-
-    ghost state_count = { N + 2 };
-
-    ghost start_state = { 0 };
-
-    ghost next_state = { next_after (N + 1) };
-
-    ghost is_accepting = { accepts_at N };
-
-    ghost activations_by = { λ counts. counts.traces };
-
-    ghost fulfilled_by = { λ counts. slice_index_or counts.first.exact (N - 1) 0 };
-
-    ghost arity_told = { λ used. refl };
-
-    ghost accepts_kept = { λ used a b trace made. exactly_kept N a b trace };
-
-    ghost counts_activated = { λ used a b log made. whole_places log };
-
-    ghost counts_fulfilled = { λ used a b log made. exactly_told a log N used.0 used.1 };
-
-    fn number() -> u8 {
-        number_of(Kind::Exactly { n: N })
-    }
+    const KIND: Kind = Kind::Exactly { n: N };
 
     fn states() -> u8 {
         N + 2
-    }
-
-    fn start() -> u8 {
-        0
     }
 
     fn step(state: u8, class: Class) -> u8 {
@@ -60,10 +34,6 @@ impl<const N: u8> Template for Exactly<N> {
 
     fn accepting(state: u8) -> bool {
         state == N
-    }
-
-    fn activations(counts: &Counts) -> u64 {
-        counts.traces
     }
 
     fn fulfilled(counts: &Counts) -> u64 {

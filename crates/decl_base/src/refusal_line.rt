@@ -1,4 +1,4 @@
-ghost use Rattle.std.specs.Prelude.{◌≡◌, ◌≤◌, ◌+◌, ◌++◌, length, decimal};
+ghost use Rattle.std.specs.Prelude.{◌≡◌, ◌≤◌, ◌+◌, ◌++◌, length, codes, decimal};
 ghost use Rattle.decl_base.specs.Refusal.{line_of};
 
 use crate::Refusal;
@@ -16,75 +16,53 @@ pub fn line_of(refusal: &Refusal) -> RefusalLine
     ensures { result.bytes ≡ line_of refusal.now }
 {
     match *refusal {
-        Refusal::Usage { at } => numbered("minerful: usage, place ", u64::from(at), "\n"),
-        Refusal::NotUtf8 { line } => numbered("minerful: line ", line, " is not UTF-8\n"),
-        Refusal::Header { which } => {
-            numbered("minerful: no column, place ", u64::from(which), "\n")
-        }
-        Refusal::ShortRow { row } => numbered("minerful: record ", row, " is too short\n"),
-        Refusal::RowText { row } => numbered("minerful: record ", row, " is not UTF-8\n"),
-        Refusal::RowOrder { row } => {
-            numbered("minerful: record ", row, " has no order number\n")
-        }
-        Refusal::NoTab { line } => numbered("minerful: line ", line, " has no tab\n"),
-        Refusal::NotJson => plain("minerful: the model is not JSON\n"),
-        Refusal::ModelShape { at } => {
-            numbered("minerful: model shape, constraint ", u64::from(at), "\n")
-        }
+        Refusal::Usage { at } => numbered("usage, place ", u64::from(at), "\n"),
+        Refusal::NotUtf8 { line } => numbered("line ", line, " is not UTF-8\n"),
+        Refusal::Header { which } => numbered("no column, place ", u64::from(which), "\n"),
+        Refusal::ShortRow { row } => numbered("record ", row, " is too short\n"),
+        Refusal::RowText { row } => numbered("record ", row, " is not UTF-8\n"),
+        Refusal::RowOrder { row } => numbered("record ", row, " has no order number\n"),
+        Refusal::NoTab { line } => numbered("line ", line, " has no tab\n"),
+        Refusal::NotJson => plain("the model is not JSON\n"),
+        Refusal::ModelShape { at } => numbered("model shape, constraint ", u64::from(at), "\n"),
         Refusal::UnknownTemplate { at } => {
-            numbered(
-                "minerful: unknown template, constraint ",
-                u64::from(at),
-                "\n",
-            )
+            numbered("unknown template, constraint ", u64::from(at), "\n")
         }
         Refusal::Parameters { at } => {
-            numbered(
-                "minerful: wrong parameters, constraint ",
-                u64::from(at),
-                "\n",
-            )
+            numbered("wrong parameters, constraint ", u64::from(at), "\n")
         }
         Refusal::SameParameter { at } => {
-            numbered(
-                "minerful: same parameter twice, constraint ",
-                u64::from(at),
-                "\n",
-            )
+            numbered("same parameter twice, constraint ", u64::from(at), "\n")
         }
-        Refusal::CertShape { part } => {
-            numbered("minerful: certificate shape, part ", u64::from(part), "\n")
-        }
-        Refusal::LineLong { line } => numbered("minerful: line ", line, " is too long\n"),
-        Refusal::Bytes { limit } => numbered("minerful: more than ", limit, " bytes\n"),
-        Refusal::Traces { limit } => numbered("minerful: more than ", limit, " traces\n"),
-        Refusal::Events { limit } => numbered("minerful: more than ", limit, " events\n"),
-        Refusal::Activities { limit } => {
-            numbered("minerful: more than ", limit, " activities\n")
-        }
-        Refusal::Candidates { count } => {
-            numbered("minerful: ", count, " constraints are too many\n")
-        }
+        Refusal::CertShape { part } => numbered("certificate shape, part ", u64::from(part), "\n"),
+        Refusal::LineLong { line } => numbered("line ", line, " is too long\n"),
+        Refusal::Bytes { limit } => numbered("more than ", limit, " bytes\n"),
+        Refusal::Traces { limit } => numbered("more than ", limit, " traces\n"),
+        Refusal::Events { limit } => numbered("more than ", limit, " events\n"),
+        Refusal::Activities { limit } => numbered("more than ", limit, " activities\n"),
+        Refusal::Candidates { count } => numbered("", count, " constraints are too many\n"),
         Refusal::States { phase, built } => states_line(phase, built),
-        Refusal::ReadFault => plain("minerful: read fault\n"),
-        Refusal::WriteFault => plain("minerful: write fault\n"),
-        Refusal::Memory => plain("minerful: out of memory\n"),
+        Refusal::ReadFault => plain("read fault\n"),
+        Refusal::WriteFault => plain("write fault\n"),
+        Refusal::Memory => plain("out of memory\n"),
     }
 }
 
+/// The text behind the program's name.
 fn plain(text: &str) -> RefusalLine
-    requires { length text.now ≤ 96 }
-    ensures { result.bytes ≡ text.now }
+    requires { length text.now ≤ 86 }
+    ensures { result.bytes ≡ codes "minerful: " ++ text.now }
 {
     let mut line = RefusalLine::new();
+    line.push_str("minerful: ");
     line.push_str(text);
     line
 }
 
 fn numbered(before: &str, number: u64, after: &str) -> RefusalLine
-    requires { length before.now + length after.now ≤ 76 }
-    ensures text { result.bytes ≡ before.now ++ decimal number ++ after.now }
-    ensures len { length result.bytes ≤ length before.now + length after.now + 20 }
+    requires { length before.now + length after.now ≤ 66 }
+    ensures text { result.bytes ≡ codes "minerful: " ++ before.now ++ decimal number ++ after.now }
+    ensures len { length result.bytes ≤ length before.now + length after.now + 30 }
 {
     let mut line = plain(before);
     line.push_str(Buffer::new().format(number));
@@ -96,7 +74,7 @@ fn states_line(phase: u8, built: u32) -> RefusalLine
     ensures { result.bytes ≡ line_of (Refusal.States phase built) }
 {
     let mut line = numbered(
-        "minerful: too many states, phase ",
+        "too many states, phase ",
         u64::from(phase),
         ", constraints ",
     );

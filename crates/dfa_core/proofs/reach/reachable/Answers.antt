@@ -14,16 +14,10 @@ of-requires-2 g c =
     c.in_ok-grouping.ensures.ok c.in_ok-grouping.ensures.alike c.in_ok-states.ensures.ok c.in_ok-grouping.ensures.few c.loop-state.invariant c.loop-state-test.false c.deref-state-items.ensures.value
     (omega (arith, c.len.ensures, c.in_ok-grouping.grouping.least.ok.0))).0.whole
 
-pub returns-clause-ok : goal.returns-clause-ok
-returns-clause-ok g c =
-    rw c.of-2.ensures (built (g.S.System.steps c.args.system.now) (g.S.Columned.columns c.args.system.now) c.in_ok-grouping.grouping.of.items c.in_ok-grouping.grouping.least.items
+pub returns : goal.returns
+returns g c =
+    let is = built (g.S.System.steps c.args.system.now) (g.S.Columned.columns c.args.system.now) c.in_ok-grouping.grouping.of.items c.in_ok-grouping.grouping.least.items
     c.in_ok-states.field-0.states.items c.in_ok-states.field-0.next.items c.deref-state-items.result.now c.loop-state.accepting.items c.len.result c.loop-state.state-index
     c.in_ok-grouping.ensures.ok c.in_ok-grouping.ensures.alike c.in_ok-states.ensures.ok c.in_ok-grouping.ensures.few c.loop-state.invariant c.loop-state-test.false c.deref-state-items.ensures.value
-    (omega (arith, c.len.ensures, c.in_ok-grouping.grouping.least.ok.0))).0
-
-pub returns-clause-columns : goal.returns-clause-columns
-returns-clause-columns g c =
-    rw c.of-2.ensures (built (g.S.System.steps c.args.system.now) (g.S.Columned.columns c.args.system.now) c.in_ok-grouping.grouping.of.items c.in_ok-grouping.grouping.least.items
-    c.in_ok-states.field-0.states.items c.in_ok-states.field-0.next.items c.deref-state-items.result.now c.loop-state.accepting.items c.len.result c.loop-state.state-index
-    c.in_ok-grouping.ensures.ok c.in_ok-grouping.ensures.alike c.in_ok-states.ensures.ok c.in_ok-grouping.ensures.few c.loop-state.invariant c.loop-state-test.false c.deref-state-items.ensures.value
-    (omega (arith, c.len.ensures, c.in_ok-grouping.grouping.least.ok.0))).1
+    (omega (arith, c.len.ensures, c.in_ok-grouping.grouping.least.ok.0)) in
+    record { ok = rw c.of-2.ensures is.0; columns = rw c.of-2.ensures is.1; err = tt }

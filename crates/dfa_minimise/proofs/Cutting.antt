@@ -1,7 +1,7 @@
 -- A class that is cut in two.
 use Rattle.std.proofs.Common.{◌≡◌, ◌⊎◌, inl, inr, ℕ, zero, ◌+◌, ◌<◌, ◌≤◌, List, [], ◌∷◌, ◌++◌, Bool, true, false, ltb, length, get_or, set, refl, sym, ap, ◌∙◌, arith, get_or-set_same, get_or-set_other, length-set}
 use Rattle.std.proofs.lemmas.Bool.{cases_eq, cases_lt}
-use Rattle.std.proofs.lemmas.List.{get_or_append_left, get_or_past, get_or_push, length_push}
+use Rattle.std.proofs.lemmas.List.{get_or_append_left, get_or_past, get_or_push, get_or_read, length_push}
 use Rattle.dfa_minimise.specs.Partitions.{IsRefinable, MarksFit, CutsClass, Begins, is_marked}
 use Rattle.dfa_minimise.specs.declared.refinable.Refinable.{Refinable}
 use Rattle.dfa_minimise.proofs.Marking.{ltb_yes, ltb_not}
@@ -38,20 +38,24 @@ halved-front first middle end h k = record {
   differ = λ p q a b c d e. not-true_false (ltb p middle) (ltb q middle) (ltb_yes p middle b) (ltb_not q middle c) e;
 }
 
-pub halved-back : (first middle end : ℕ) → first < middle → middle < end → IsHalved first middle end middle end first middle
-halved-back first middle end h k = record {
-  some = k;
-  kept_some = h;
-  low = omega arith;
-  high = omega arith;
-  kept_low = omega arith;
-  kept_high = omega arith;
-  either = λ p lo hi. elim (cases_lt p middle) [ inl lt ↦ inr (lo, lt) | inr ge ↦ inl (ge, hi) ];
-  apart = λ p a b c d. omega arith;
-  same = λ p q a b c d. ltb_not p middle a ∙ sym (ltb_not q middle c);
-  kept_same = λ p q a b c d. ltb_yes p middle b ∙ sym (ltb_yes q middle d);
-  differ = λ p q a b c d e. not-true_false (ltb q middle) (ltb p middle) (ltb_yes q middle d) (ltb_not p middle a) (sym e);
+-- the same the other way round
+halved-other : (first middle end from to kept_from kept_to : ℕ) → IsHalved first middle end from to kept_from kept_to → IsHalved first middle end kept_from kept_to from to
+halved-other first middle end from to kept_from kept_to h = record {
+  some = h.kept_some;
+  kept_some = h.some;
+  low = h.kept_low;
+  high = h.kept_high;
+  kept_low = h.low;
+  kept_high = h.high;
+  either = λ p lo hi. elim (h.either p lo hi) [ inl new ↦ inr new | inr kept ↦ inl kept ];
+  apart = λ p a b c d. h.apart p c d a b;
+  same = h.kept_same;
+  kept_same = h.same;
+  differ = λ p q a b c d e. h.differ q p c d a b (sym e);
 }
+
+pub halved-back : (first middle end : ℕ) → first < middle → middle < end → IsHalved first middle end middle end first middle
+halved-back first middle end h k = halved-other first middle end first middle middle end (halved-front first middle end h k)
 
 -- a list in which a class has a new number, and that has one more
 pub record IsListCut (old new : List ℕ) (c kept fresh : ℕ) : Type 0 where
@@ -273,34 +277,48 @@ module _ (old new : Refinable) (c middle from to kept_from kept_to : ℕ) (h : I
         ];
   }
 
+-- where a class begins, how many of its states are marked and where it ends
+pub record IsReadAt (old : Refinable) (c f m e : ℕ) : Type 0 where
+  pub first : f ≡ get_or old.first.items c 0
+  pub marked : m ≡ get_or old.marked.items c 0
+  pub end : e ≡ get_or old.end.items c 0
+
+pub read-at : (old : Refinable) (c f m e : ℕ) → IsRefinable (length old.class.items) old.order.items old.place.items old.class.items old.first.items old.end.items → MarksFit old.first.items old.end.items old.marked.items
+    → c < length old.first.items → f ≡ get_or old.first.items c f → m ≡ get_or old.marked.items c m → e ≡ get_or old.end.items c e → IsReadAt old c f m e
+read-at old c f m e h fit lc first marked end = record {
+  first = get_or_read old.first.items c f lc first 0;
+  marked = get_or_read old.marked.items c m (omega (arith, lc, fit.marks_length)) marked 0;
+  end = get_or_read old.end.items c e (omega (arith, lc, h.end_length)) end 0;
+}
+
 pub cut-front : (old mid new : Refinable) (c f m e : ℕ) → IsRefinable (length old.class.items) old.order.items old.place.items old.class.items old.first.items old.end.items → MarksFit old.first.items old.end.items old.marked.items
-    → c < length old.first.items → f ≡ get_or old.first.items c 0 → m ≡ get_or old.marked.items c 0 → e ≡ get_or old.end.items c 0 → (f ≡ f + m → ⊥) → (f + m ≡ e → ⊥)
+    → c < length old.first.items → IsReadAt old c f m e → (f ≡ f + m → ⊥) → (f + m ≡ e → ⊥)
     → mid.order.items ≡ old.order.items → mid.place.items ≡ old.place.items → mid.class.items ≡ old.class.items → mid.first.items ≡ set old.first.items c (f + m) → mid.end.items ≡ old.end.items → mid.marked.items ≡ set old.marked.items c 0
     → Begins mid new f (f + m) (f + m) → CutsClass old new c
-cut-front old mid new c f m e h fit lc ef em ee nf ne eo ep ec emf eme emm b =
+cut-front old mid new c f m e h fit lc reads nf ne eo ep ec emf eme emm b =
     let bound = fit.marks_bound c lc in
     let lf : length mid.first.items ≡ length old.first.items = ap length emf ∙ length-set old.first.items c (f + m) in
-    cut-class old new c (f + m) f (f + m) (f + m) e h fit lc (ap (λ (k : ℕ). k + m) ef ∙ ap (λ (k : ℕ). get_or old.first.items c 0 + k) em)
-    (rw (← ef, ← ee) (halved-front f (f + m) e (omega arith) (omega arith)))
+    cut-class old new c (f + m) f (f + m) (f + m) e h fit lc (ap (λ (k : ℕ). k + m) reads.first ∙ ap (λ (k : ℕ). get_or old.first.items c 0 + k) reads.marked)
+    (rw (← reads.first, ← reads.end) (halved-front f (f + m) e (omega arith) (omega arith)))
     (b.order ∙ eo) (b.place ∙ ep)
     (list-cut_set old.first.items new.first.items c (f + m) f lc (b.first ∙ ap (λ (l : List ℕ). l ++ f ∷ []) emf))
-    (list-cut_same old.end.items new.end.items c e (f + m) (omega (arith, lc, h.end_length)) ee (b.end ∙ ap (λ (l : List ℕ). l ++ (f + m) ∷ []) eme))
+    (list-cut_same old.end.items new.end.items c e (f + m) (omega (arith, lc, h.end_length)) reads.end (b.end ∙ ap (λ (l : List ℕ). l ++ (f + m) ∷ []) eme))
     (list-cut_set old.marked.items new.marked.items c 0 0 (omega (arith, lc, fit.marks_length)) (b.marked ∙ ap (λ (l : List ℕ). l ++ zero ∷ []) emm))
     (b.class_length ∙ ap length ec)
     (λ q lq lo hi. b.inside q (rw ec lq) (rw ep lo) (rw ep hi) ∙ lf)
     (λ q lq out. b.outside q (rw ec lq) (λ lo hi. out (rw ep at lo) (rw ep at hi)) ∙ ap (λ (l : List ℕ). get_or l q 0) ec)
 
 pub cut-back : (old mid new : Refinable) (c f m e : ℕ) → IsRefinable (length old.class.items) old.order.items old.place.items old.class.items old.first.items old.end.items → MarksFit old.first.items old.end.items old.marked.items
-    → c < length old.first.items → f ≡ get_or old.first.items c 0 → m ≡ get_or old.marked.items c 0 → e ≡ get_or old.end.items c 0 → (f ≡ f + m → ⊥) → (f + m ≡ e → ⊥)
+    → c < length old.first.items → IsReadAt old c f m e → (f ≡ f + m → ⊥) → (f + m ≡ e → ⊥)
     → mid.order.items ≡ old.order.items → mid.place.items ≡ old.place.items → mid.class.items ≡ old.class.items → mid.first.items ≡ old.first.items → mid.end.items ≡ set old.end.items c (f + m) → mid.marked.items ≡ set old.marked.items c 0
     → Begins mid new (f + m) e e → CutsClass old new c
-cut-back old mid new c f m e h fit lc ef em ee nf ne eo ep ec emf eme emm b =
+cut-back old mid new c f m e h fit lc reads nf ne eo ep ec emf eme emm b =
     let bound = fit.marks_bound c lc in
     let lf : length mid.first.items ≡ length old.first.items = ap length emf in
-    cut-class old new c (f + m) (f + m) e f (f + m) h fit lc (ap (λ (k : ℕ). k + m) ef ∙ ap (λ (k : ℕ). get_or old.first.items c 0 + k) em)
-    (rw (← ef, ← ee) (halved-back f (f + m) e (omega arith) (omega arith)))
+    cut-class old new c (f + m) (f + m) e f (f + m) h fit lc (ap (λ (k : ℕ). k + m) reads.first ∙ ap (λ (k : ℕ). get_or old.first.items c 0 + k) reads.marked)
+    (rw (← reads.first, ← reads.end) (halved-back f (f + m) e (omega arith) (omega arith)))
     (b.order ∙ eo) (b.place ∙ ep)
-    (list-cut_same old.first.items new.first.items c f (f + m) lc ef (b.first ∙ ap (λ (l : List ℕ). l ++ (f + m) ∷ []) emf))
+    (list-cut_same old.first.items new.first.items c f (f + m) lc reads.first (b.first ∙ ap (λ (l : List ℕ). l ++ (f + m) ∷ []) emf))
     (list-cut_set old.end.items new.end.items c (f + m) e (omega (arith, lc, h.end_length)) (b.end ∙ ap (λ (l : List ℕ). l ++ e ∷ []) eme))
     (list-cut_set old.marked.items new.marked.items c 0 0 (omega (arith, lc, fit.marks_length)) (b.marked ∙ ap (λ (l : List ℕ). l ++ zero ∷ []) emm))
     (b.class_length ∙ ap length ec)

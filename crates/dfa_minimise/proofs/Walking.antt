@@ -1,11 +1,12 @@
 -- Cells that are filled state by state, and walks along them.
 use Rattle.std.proofs.Common.{◌≡◌, inl, inr, ℕ, suc, ◌+◌, ◌*◌, ◌<◌, ◌≤◌, List, Option, Some, None, Bool, true, false, ◌||◌, ◌&&◌, eqb, leb, length, get_or, set, refl, sym, ap, ◌∙◌, arith, get_or-set_same, get_or-set_other, length-set, eq-eqb}
 use Rattle.std.proofs.lemmas.Bool.{cases_eq, cases_lt}
+use Rattle.std.proofs.lemmas.List.{get_or_read}
 use Rattle.std.proofs.lemmas.Nat.{same_from_place, mul-add-lt}
 use Rattle.std.proofs.Math.Nat.{mul_comm}
 use Rattle.dfa_core.specs.Automaton.{Automaton, IsWhole, state_count, step_column}
 use Rattle.dfa_minimise.proofs.Progress.{AreFilled, LeadsTo, after}
-use Rattle.dfa_minimise.specs.Preimages.{IsGreatest}
+use Rattle.dfa_minimise.specs.Preimages.{AreSources, IsGreatest}
 use Rattle.dfa_minimise.proofs.Marking.{eqb_not, or-true, or-false}
 
 greatest-skip : (a : Automaton) (x t bound : ℕ) (o : Option ℕ) → (step_column a bound x ≡ t → ⊥) → IsGreatest a x t bound o → IsGreatest a x t (bound + 1) o
@@ -83,6 +84,22 @@ unseen a x t n (Some g) q h lq = elim (cases_eq t (step_column a q x)) [
 pub after_le : (a : Automaton) (x t g : ℕ) (o : Option ℕ) → IsGreatest a x t g o → after o ≤ g
 after_le a x t g None h = omega arith
 after_le a x t g (Some f) h = omega (arith, h.0)
+
+-- what stands at a state's place among the cells of a column
+pub reads-greatest : (a : Automaton) (cells : List (Option ℕ)) (x q t bound states : ℕ) (o : Option ℕ) → length cells ≡ a.width * state_count a → states ≡ state_count a → x < a.width → q < state_count a
+    → o ≡ get_or cells (x * states + q) o → IsGreatest a x t bound (get_or cells (x * state_count a + q) None) → IsGreatest a x t bound o
+reads-greatest a cells x q t bound states o long e lx lq is greatest =
+    let b = mul-add-lt x (state_count a) q a.width lx lq in
+    let m = mul_comm (state_count a) a.width in
+    let inside : x * state_count a + q < length cells = omega (arith, long, b, m) in
+    rw (get_or_read cells (x * states + q) o (rw e inside) is None, e) greatest
+
+-- before a state that the column leads to the target
+pub reads-before : (a : Automaton) (last before : List (Option ℕ)) (x q t states : ℕ) (o : Option ℕ) → AreSources a last before → states ≡ state_count a → x < a.width → q < state_count a → step_column a q x ≡ t
+    → o ≡ get_or before (x * states + q) o → IsGreatest a x t q o
+reads-before a last before x q t states o sources e lx lq leads is =
+    let gr : IsGreatest a x (step_column a q x) q o = reads-greatest a before x q (step_column a q x) q states o sources.before_length e lx lq is (sources.before_of x q lx lq) in
+    rw leads at gr
 
 pub leads-greatest : (a : Automaton) (x t n : ℕ) (o : Option ℕ) → IsGreatest a x t n o → n ≤ state_count a → LeadsTo a x t o
 leads-greatest a x t n None h le = tt

@@ -1,7 +1,6 @@
 use Rattle.std.proofs.Common.{◌+◌, refl, arith, length-set}
-use Rattle.std.proofs.lemmas.List.{get_or_read}
 use Rattle.dfa_minimise.proofs.Marking.{classes_few}
-use Rattle.dfa_minimise.proofs.Cutting.{cut-front, cut-back}
+use Rattle.dfa_minimise.proofs.Cutting.{cut-front, cut-back, read-at}
 use Rattle.dfa_minimise.proofs.refinable.Refinable.cut.Goals as goal
 
 pub begin-requires-clause-few : goal.begin-requires-clause-few
@@ -17,21 +16,13 @@ begin-requires-else-middle-first-clause-few c =
 pub returns-in_ok-begin : goal.returns-in_ok-begin
 returns-in_ok-begin c =
     let p = c.args.self.now in
-    let h = c.requires.refinable in
-    let fit = c.requires.fit in
-    let lc = c.requires.class in
-    let f = get_or_read p.first.items c.args.class c.index-first.result.now lc c.index-first.ensures 0 in
-    let e = get_or_read p.end.items c.args.class c.index-end.result.now (omega (arith, lc, h.end_length)) c.index-end.ensures 0 in
-    let m = get_or_read p.marked.items c.args.class c.index.result.now (omega (arith, lc, fit.marks_length)) c.index.ensures 0 in
-    cut-front p _ c.begin.new.self c.args.class c.index-first.result.now c.index.result.now c.index-end.result.now h fit lc f m e c.if-first-middle.false c.if-middle-end.false refl refl refl refl refl refl c.in_ok-begin.ensures
+    let reads = read-at p c.args.class c.index-first.result.now c.index.result.now c.index-end.result.now c.requires.refinable c.requires.fit c.requires.class c.index-first.ensures c.index.ensures c.index-end.ensures in
+    cut-front p _ c.begin.new.self c.args.class c.index-first.result.now c.index.result.now c.index-end.result.now c.requires.refinable c.requires.fit c.requires.class reads c.if-first-middle.false c.if-middle-end.false
+    refl refl refl refl refl refl c.in_ok-begin.ensures
 
 pub returns-in_ok-begin-2 : goal.returns-in_ok-begin-2
 returns-in_ok-begin-2 c =
     let p = c.args.self.now in
-    let h = c.requires.refinable in
-    let fit = c.requires.fit in
-    let lc = c.requires.class in
-    let f = get_or_read p.first.items c.args.class c.index-first.result.now lc c.index-first.ensures 0 in
-    let e = get_or_read p.end.items c.args.class c.index-end.result.now (omega (arith, lc, h.end_length)) c.index-end.ensures 0 in
-    let m = get_or_read p.marked.items c.args.class c.index.result.now (omega (arith, lc, fit.marks_length)) c.index.ensures 0 in
-    cut-back p _ c.begin-else-middle-first.new.self c.args.class c.index-first.result.now c.index.result.now c.index-end.result.now h fit lc f m e c.if-first-middle.false c.if-middle-end.false refl refl refl refl refl refl c.in_ok-begin-2.ensures
+    let reads = read-at p c.args.class c.index-first.result.now c.index.result.now c.index-end.result.now c.requires.refinable c.requires.fit c.requires.class c.index-first.ensures c.index.ensures c.index-end.ensures in
+    cut-back p _ c.begin-else-middle-first.new.self c.args.class c.index-first.result.now c.index.result.now c.index-end.result.now c.requires.refinable c.requires.fit c.requires.class reads c.if-first-middle.false c.if-middle-end.false
+    refl refl refl refl refl refl c.in_ok-begin-2.ensures

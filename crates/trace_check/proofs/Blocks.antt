@@ -22,9 +22,19 @@ places-append c n (e ∷ s) t =
     ∙ cond-append (eqb e c) n (places_from c (n + 1) s) (places_from c (n + 1 + length s) t)
     ∙ ap (λ m. cond (eqb e c) (n ∷ places_from c (n + 1) s) (places_from c (n + 1) s) ++ places_from c m t) {x = n + 1 + length s} {y = n + suc (length s)} (omega arith)
 
+-- the events from a trace on are its own and those behind it
+events-left : (log : List (List ℕ)) (k : ℕ) (t : List ℕ) → slice_get log k ≡ Some t → events_of (drop k log) ≡ t ++ events_of (drop (k + 1) log)
+events-left [] k t is = absurd (none-some t is)
+events-left (u ∷ log) zero t is = let same : u ≡ t = cc in ap (λ v. v ++ events_of log) same
+events-left (u ∷ log) (suc k) t is = events-left log k t is ∙ ap (λ m. t ++ events_of (drop m (u ∷ log))) {x = suc (k + 1)} {y = suc k + 1} (omega arith)
+
 -- the part of the places that lies in the next trace
-module _ (c start end : ℕ) (xs : List ℕ) (i e : ℕ) (t rest : List ℕ) (from : i ≤ length xs) (left : drop i xs ≡ places_from c start (t ++ rest)) (end_is : end ≡ start + length t)
-    (low : i ≤ e) (high : e ≤ length xs) (before : i < e → get_or xs (e - 1) 0 < end) (behind : e < length xs → end ≤ get_or xs e 0) where
+module _ (c start : ℕ) (xs : List ℕ) (i e : ℕ) (log : List (List ℕ)) (number : ℕ) (t : List ℕ) (is : slice_get log number ≡ Some t) (from : i ≤ length xs)
+    (left : drop i xs ≡ places_from c start (events_of (drop number log))) (low : i ≤ e) (high : e ≤ length xs) (before : i < e → get_or xs (e - 1) 0 < start + length t)
+    (behind : e < length xs → start + length t ≤ get_or xs e 0) where
+  abbrev rest : List ℕ
+  rest = events_of (drop (number + 1) log)
+
   abbrev front : List ℕ
   front = places_from c start t
 
@@ -32,7 +42,7 @@ module _ (c start end : ℕ) (xs : List ℕ) (i e : ℕ) (t rest : List ℕ) (fr
   back = places_from c (start + length t) rest
 
   parts : drop i xs ≡ front ++ back
-  parts = left ∙ places-append c start t rest
+  parts = left ∙ ap (places_from c start) (events-left log number t is) ∙ places-append c start t rest
 
   sizes : length xs - i ≡ length front + length back
   sizes = sym (length-drop i xs) ∙ ap length parts ∙ length-append front back
@@ -53,7 +63,6 @@ module _ (c start end : ℕ) (xs : List ℕ) (i e : ℕ) (t rest : List ℕ) (fr
         at (e - i),
         get_or_append_left front back 0 (e - i) lt,
         places-below c start t (e - i) 0 lt,
-        end_is,
       )))
       (λ ge. ge) (cases_lt (e - i) (length front))
 
@@ -71,7 +80,6 @@ module _ (c start end : ℕ) (xs : List ℕ) (i e : ℕ) (t rest : List ℕ) (fr
         at k,
         get_or-append_right front back k 0 (omega arith),
         places-above c (start + length t) rest (k - length front) 0 inside,
-        end_is,
       )))
       (λ ge. ge) (cases_lt (length front) (e - i))
 
@@ -81,18 +89,12 @@ module _ (c start end : ℕ) (xs : List ℕ) (i e : ℕ) (t rest : List ℕ) (fr
   pub block : slice_range xs i e ≡ places_from c start t
   block = ap (λ n. take n (drop i xs)) size ∙ ap (take (length front)) parts ∙ take-append_seam front back
 
-  pub remains : drop e xs ≡ places_from c end rest
+  pub remains : drop e xs ≡ places_from c (start + length t) rest
   remains =
       ap (λ n. drop n xs) {x = e} {y = i + length front} (omega (arith, size, low))
       ∙ sym (drop-drop (length front) i xs) ∙ ap (drop (length front)) parts ∙ drop-append_seam front back
-      ∙ ap (λ n. places_from c n rest) (sym end_is)
 
 -- ---- traces and their events
-
-pub events-left : (log : List (List ℕ)) (k : ℕ) (t : List ℕ) → slice_get log k ≡ Some t → events_of (drop k log) ≡ t ++ events_of (drop (k + 1) log)
-events-left [] k t is = absurd (none-some t is)
-events-left (u ∷ log) zero t is = let same : u ≡ t = cc in ap (λ v. v ++ events_of log) same
-events-left (u ∷ log) (suc k) t is = events-left log k t is ∙ ap (λ m. t ++ events_of (drop m (u ∷ log))) {x = suc (k + 1)} {y = suc k + 1} (omega arith)
 
 pub events-most : (log : List (List ℕ)) (k : ℕ) → length (events_of (take k log)) ≤ length (events_of log)
 events-most [] zero = omega arith

@@ -1,5 +1,5 @@
 -- Constraints of two activities, by the places of their events.
-use Rattle.std.proofs.Common.{◌≡◌, ◌≢◌, ◌↔◌, ℕ, suc, ◌+◌, ◌-◌, ◌<◌, ◌≤◌, List, [], ◌∷◌, Bool, true, false, ◌&&◌, ◌||◌, cond, min, drop, get_or, nat_eq, length, count_by, Option, None, Some, refl, sym, ap, ◌∙◌, subst, arith, ⊎_elim, inl, inr}
+use Rattle.std.proofs.Common.{◌≡◌, ◌≢◌, ◌⊎◌, ◌↔◌, ℕ, suc, ◌+◌, ◌-◌, ◌<◌, ◌≤◌, List, [], ◌∷◌, Bool, true, false, ◌&&◌, ◌||◌, cond, min, drop, get_or, nat_eq, length, count_by, Option, None, Some, refl, sym, ap, ◌∙◌, subst, arith, ⊎_elim, inl, inr}
 use Rattle.std.proofs.lemmas.Bool.{true≢false, cases_lt, or_cases, or_left, or_right}
 use Rattle.std.proofs.lemmas.Option.{slice_get_within}
 use Rattle.std.specs.Option.{is_some}
@@ -230,57 +230,36 @@ activated-by (AtLeast n) a b t two i = absurd (omega (arith, two))
 activated-by (AtMost n) a b t two i = absurd (omega (arith, two))
 activated-by kind a b t two i = each_of-stands a b t i
 
-at_own : (a b : ℕ) (t : List ℕ) (i : ℕ) (P Q : ℕ → Type 0) (v : Bool) → a ≢ b → EventIs a t i → v ≡ true ↔ AtEach a b P Q t i → v ≡ true ↔ P i
-at_own a b t i P Q v differ at h = (λ e. (h.0 e).0 at, λ p. h.1 (λ is. p, λ is. absurd (differ (some_same a b (sym at ∙ is)))))
+-- what is fulfilled at the events of each of two activities, at those of one and of the other
+of_each : (a b : ℕ) (t : List ℕ) (P Q : ℕ → Type 0) (ful : ℕ → Bool) → a ≢ b → ((i : ℕ) → EventIs a t i ⊎ EventIs b t i → ful i ≡ true ↔ AtEach a b P Q t i)
+    → ((i : ℕ) → EventIs a t i → ful i ≡ true ↔ P i) × ((i : ℕ) → EventIs b t i → ful i ≡ true ↔ Q i)
+of_each a b t P Q ful differ says = (
+  λ i at. let h = says i (inl at) in (λ e. (h.0 e).0 at, λ p. h.1 (λ is. p, λ is. absurd (differ (some_same a b (sym at ∙ is))))),
+  λ i at. let h = says i (inr at) in (λ e. (h.0 e).1 at, λ p. h.1 (λ is. absurd (differ (some_same a b (sym is ∙ at))), λ is. p)),
+)
 
-at_other : (a b : ℕ) (t : List ℕ) (i : ℕ) (P Q : ℕ → Type 0) (v : Bool) → a ≢ b → EventIs b t i → v ≡ true ↔ AtEach a b P Q t i → v ≡ true ↔ Q i
-at_other a b t i P Q v differ at h = (λ e. (h.0 e).1 at, λ p. h.1 (λ is. absurd (differ (some_same a b (sym is ∙ at))), λ is. p))
-
-first-tells : (kind : Kind) (a b : ℕ) (t : List ℕ) → IsWellMade kind a b → TellsOf (demands_of kind).first a b t (λ i. is_fulfilled nat_eq kind a b t i)
-first-tells ChainSuccession a b t made = λ i at. at_own a b t i (λ i. EventIs b t (i + 1)) (PreviousIs a t) (is_fulfilled nat_eq ChainSuccession a b t i) made at (fulfilled-iff ChainSuccession a b t i made (inl at))
-first-tells AlternateSuccession a b t made = λ i at. at_own a b t i (AlternatesLaterAt a b t) (AlternatesEarlierAt a b t) (is_fulfilled nat_eq AlternateSuccession a b t i) made at (fulfilled-iff AlternateSuccession a b t i made (inl at))
-first-tells Succession a b t made = λ i at. at_own a b t i (LaterIs b t) (EarlierIs a t) (is_fulfilled nat_eq Succession a b t i) made at (fulfilled-iff Succession a b t i made (inl at))
-first-tells CoExistence a b t made = λ i at. at_own a b t i (λ i. SomeIs b t) (λ i. SomeIs a t) (is_fulfilled nat_eq CoExistence a b t i) made at (fulfilled-iff CoExistence a b t i made (inl at))
-first-tells NotCoExistence a b t made = λ i at. at_own a b t i (λ i. ¬ SomeIs b t) (λ i. ¬ SomeIs a t) (is_fulfilled nat_eq NotCoExistence a b t i) made at (fulfilled-iff NotCoExistence a b t i made (inl at))
-first-tells NotSuccession a b t made = λ i at. at_own a b t i (λ i. ¬ LaterIs b t i) (λ i. ¬ EarlierIs a t i) (is_fulfilled nat_eq NotSuccession a b t i) made at (fulfilled-iff NotSuccession a b t i made (inl at))
-first-tells NotChainSuccession a b t made = λ i at. at_own a b t i (λ i. ¬ EventIs b t (i + 1)) (λ i. ¬ PreviousIs a t i) (is_fulfilled nat_eq NotChainSuccession a b t i) made at (fulfilled-iff NotChainSuccession a b t i made (inl at))
-first-tells Init a b t made = tt
-first-tells End a b t made = tt
-first-tells Participation a b t made = tt
-first-tells AtMostOne a b t made = tt
-first-tells (Exactly n) a b t made = tt
-first-tells (AtLeast n) a b t made = tt
-first-tells (AtMost n) a b t made = tt
-first-tells ChainPrecedence a b t made = tt
-first-tells AlternatePrecedence a b t made = tt
-first-tells Precedence a b t made = tt
-first-tells NotPrecedence a b t made = tt
-first-tells NotChainPrecedence a b t made = tt
-first-tells kind a b t made = λ i at. fulfilled-iff kind a b t i made at
-
-second-tells : (kind : Kind) (a b : ℕ) (t : List ℕ) → IsWellMade kind a b → TellsOf (demands_of kind).second b a t (λ i. is_fulfilled nat_eq kind a b t i)
-second-tells ChainSuccession a b t made = λ i at. at_other a b t i (λ i. EventIs b t (i + 1)) (PreviousIs a t) (is_fulfilled nat_eq ChainSuccession a b t i) made at (fulfilled-iff ChainSuccession a b t i made (inr at))
-second-tells AlternateSuccession a b t made = λ i at. at_other a b t i (AlternatesLaterAt a b t) (AlternatesEarlierAt a b t) (is_fulfilled nat_eq AlternateSuccession a b t i) made at (fulfilled-iff AlternateSuccession a b t i made (inr at))
-second-tells Succession a b t made = λ i at. at_other a b t i (LaterIs b t) (EarlierIs a t) (is_fulfilled nat_eq Succession a b t i) made at (fulfilled-iff Succession a b t i made (inr at))
-second-tells CoExistence a b t made = λ i at. at_other a b t i (λ i. SomeIs b t) (λ i. SomeIs a t) (is_fulfilled nat_eq CoExistence a b t i) made at (fulfilled-iff CoExistence a b t i made (inr at))
-second-tells NotCoExistence a b t made = λ i at. at_other a b t i (λ i. ¬ SomeIs b t) (λ i. ¬ SomeIs a t) (is_fulfilled nat_eq NotCoExistence a b t i) made at (fulfilled-iff NotCoExistence a b t i made (inr at))
-second-tells NotSuccession a b t made = λ i at. at_other a b t i (λ i. ¬ LaterIs b t i) (λ i. ¬ EarlierIs a t i) (is_fulfilled nat_eq NotSuccession a b t i) made at (fulfilled-iff NotSuccession a b t i made (inr at))
-second-tells NotChainSuccession a b t made = λ i at. at_other a b t i (λ i. ¬ EventIs b t (i + 1)) (λ i. ¬ PreviousIs a t i) (is_fulfilled nat_eq NotChainSuccession a b t i) made at (fulfilled-iff NotChainSuccession a b t i made (inr at))
-second-tells Init a b t made = tt
-second-tells End a b t made = tt
-second-tells Participation a b t made = tt
-second-tells AtMostOne a b t made = tt
-second-tells (Exactly n) a b t made = tt
-second-tells (AtLeast n) a b t made = tt
-second-tells (AtMost n) a b t made = tt
-second-tells ChainResponse a b t made = tt
-second-tells AlternateResponse a b t made = tt
-second-tells Response a b t made = tt
-second-tells RespondedExistence a b t made = tt
-second-tells NotRespondedExistence a b t made = tt
-second-tells NotResponse a b t made = tt
-second-tells NotChainResponse a b t made = tt
-second-tells kind a b t made = λ i at. fulfilled-iff kind a b t i made at
+both-tell : (kind : Kind) (a b : ℕ) (t : List ℕ) → IsWellMade kind a b
+    → TellsOf (demands_of kind).first a b t (λ i. is_fulfilled nat_eq kind a b t i) × TellsOf (demands_of kind).second b a t (λ i. is_fulfilled nat_eq kind a b t i)
+both-tell ChainSuccession a b t made = of_each a b t (λ i. EventIs b t (i + 1)) (PreviousIs a t) (is_fulfilled nat_eq ChainSuccession a b t) made (λ i at. fulfilled-iff ChainSuccession a b t i made at)
+both-tell AlternateSuccession a b t made = of_each a b t (AlternatesLaterAt a b t) (AlternatesEarlierAt a b t) (is_fulfilled nat_eq AlternateSuccession a b t) made (λ i at. fulfilled-iff AlternateSuccession a b t i made at)
+both-tell Succession a b t made = of_each a b t (LaterIs b t) (EarlierIs a t) (is_fulfilled nat_eq Succession a b t) made (λ i at. fulfilled-iff Succession a b t i made at)
+both-tell CoExistence a b t made = of_each a b t (λ i. SomeIs b t) (λ i. SomeIs a t) (is_fulfilled nat_eq CoExistence a b t) made (λ i at. fulfilled-iff CoExistence a b t i made at)
+both-tell NotCoExistence a b t made = of_each a b t (λ i. ¬ SomeIs b t) (λ i. ¬ SomeIs a t) (is_fulfilled nat_eq NotCoExistence a b t) made (λ i at. fulfilled-iff NotCoExistence a b t i made at)
+both-tell NotSuccession a b t made = of_each a b t (λ i. ¬ LaterIs b t i) (λ i. ¬ EarlierIs a t i) (is_fulfilled nat_eq NotSuccession a b t) made (λ i at. fulfilled-iff NotSuccession a b t i made at)
+both-tell NotChainSuccession a b t made = of_each a b t (λ i. ¬ EventIs b t (i + 1)) (λ i. ¬ PreviousIs a t i) (is_fulfilled nat_eq NotChainSuccession a b t) made (λ i at. fulfilled-iff NotChainSuccession a b t i made at)
+both-tell Init a b t made = (tt, tt)
+both-tell End a b t made = (tt, tt)
+both-tell Participation a b t made = (tt, tt)
+both-tell AtMostOne a b t made = (tt, tt)
+both-tell (Exactly n) a b t made = (tt, tt)
+both-tell (AtLeast n) a b t made = (tt, tt)
+both-tell (AtMost n) a b t made = (tt, tt)
+both-tell ChainPrecedence a b t made = (tt, λ i at. fulfilled-iff ChainPrecedence a b t i made at)
+both-tell AlternatePrecedence a b t made = (tt, λ i at. fulfilled-iff AlternatePrecedence a b t i made at)
+both-tell Precedence a b t made = (tt, λ i at. fulfilled-iff Precedence a b t i made at)
+both-tell NotPrecedence a b t made = (tt, λ i at. fulfilled-iff NotPrecedence a b t i made at)
+both-tell NotChainPrecedence a b t made = (tt, λ i at. fulfilled-iff NotChainPrecedence a b t i made at)
+both-tell kind a b t made = (λ i at. fulfilled-iff kind a b t i made at, tt)
 
 -- two activities differ
 pub two-differ : (kind : Kind) (a b : ℕ) → arity kind ≡ 2 → IsWellMade kind a b → a ≢ b
@@ -295,9 +274,10 @@ pub joined-tally : (kind : Kind) (a b n : ℕ) (t firsts seconds : List ℕ) (ta
 joined-tally kind a b n t firsts seconds tally two made firsts_are seconds_are is =
     let differ = two-differ kind a b two made in
     let ful : ℕ → Bool = λ i. is_fulfilled nat_eq kind a b t i in
+    let tell = both-tell kind a b t made in
     joined kind a b n t (is_some (demands_of kind).first) (is_some (demands_of kind).second) differ (activated-by kind a b t two) is.first is.second
-    (side-means (demands_of kind).first a b n t firsts seconds ful is.first differ firsts_are seconds_are is.first_is (first-tells kind a b t made))
-    (side-means (demands_of kind).second b a n t seconds firsts ful is.second (λ e. differ (sym e)) seconds_are firsts_are is.second_is (second-tells kind a b t made))
+    (side-means (demands_of kind).first a b n t firsts seconds ful is.first differ firsts_are seconds_are is.first_is tell.0)
+    (side-means (demands_of kind).second b a n t seconds firsts ful is.second (λ e. differ (sym e)) seconds_are firsts_are is.second_is tell.1)
     tally is.tally_is
 
 -- no place holds both

@@ -1,10 +1,9 @@
-use Rattle.std.proofs.Common.{◌+◌, ◌^◌, take, drop, length, refl, sym, ap, ap₂, ◌∙◌, arith, length-append}
+use Rattle.std.proofs.Common.{◌+◌, ◌^◌, take, length, sym, ap, ap₂, ◌∙◌, arith, length-append}
 use Rattle.event_log.specs.Logs.{events_of}
-use Rattle.trace_check.specs.Standing.{places_from}
 use Rattle.trace_check.specs.Tallies.{with_tally}
 use Rattle.trace_check.specs.declared.checked.Checked.{Checked}
 use Rattle.trace_check.specs.declared.tally.Tally.{Tally}
-use Rattle.trace_check.proofs.Blocks.{block, remains, events-left, events-next, events-fit}
+use Rattle.trace_check.proofs.Blocks.{block, remains, events-next, events-fit}
 use Rattle.trace_check.proofs.Grows.{activated-fits, fulfilled-fits, row-next}
 use Rattle.trace_check.proofs.rows.row_of.Goals as goal
 
@@ -16,23 +15,17 @@ tally_of-tally-requires-clause-fits c = omega (arith, c.loop-number.invariant.st
 
 pub tally_of-tally-requires-clause-firsts : goal.tally_of-tally-requires-clause-firsts
 tally_of-tally-requires-clause-firsts c =
-    let log = c.args.log.now.traces in
-    let k = c.loop-number.number in
-    let t = c.trace-trace.result.now in
+    let h = c.loop-number.invariant in
     let e = c.places_before-first_end in
-    block c.args.constraint.now.first c.loop-number.start (c.loop-number.start + length t) c.args.firsts.now c.loop-number.first e.result t (events_of (drop (k + 1) log)) c.loop-number.invariant.first_within
-    (c.loop-number.invariant.first_left ∙ ap (places_from c.args.constraint.now.first c.loop-number.start) (events-left log k t c.trace-trace.ensures)) refl e.ensures.least e.ensures.most e.ensures.before
-    e.ensures.behind
+    block c.args.constraint.now.first c.loop-number.start c.args.firsts.now c.loop-number.first e.result c.args.log.now.traces c.loop-number.number c.trace-trace.result.now c.trace-trace.ensures h.first_within h.first_left
+    e.ensures.least e.ensures.most e.ensures.before e.ensures.behind
 
 pub tally_of-tally-requires-clause-seconds : goal.tally_of-tally-requires-clause-seconds
 tally_of-tally-requires-clause-seconds c =
-    let log = c.args.log.now.traces in
-    let k = c.loop-number.number in
-    let t = c.trace-trace.result.now in
+    let h = c.loop-number.invariant in
     let e = c.places_before-second_end in
-    block c.args.constraint.now.second c.loop-number.start (c.loop-number.start + length t) c.args.seconds.now c.loop-number.second e.result t (events_of (drop (k + 1) log)) c.loop-number.invariant.second_within
-    (c.loop-number.invariant.second_left ∙ ap (places_from c.args.constraint.now.second c.loop-number.start) (events-left log k t c.trace-trace.ensures)) refl e.ensures.least e.ensures.most e.ensures.before
-    e.ensures.behind
+    block c.args.constraint.now.second c.loop-number.start c.args.seconds.now c.loop-number.second e.result c.args.log.now.traces c.loop-number.number c.trace-trace.result.now c.trace-trace.ensures h.second_within h.second_left
+    e.ensures.least e.ensures.most e.ensures.before e.ensures.behind
 
 pub with_tally-row-requires-clause-activated : goal.with_tally-row-requires-clause-activated
 with_tally-row-requires-clause-activated c =
@@ -66,10 +59,10 @@ loop-number-preserved c =
       start = omega (arith, c.loop-number.invariant.start, ap length (events-next log k t c.trace-trace.ensures), length-append (events_of (take k log)) t);
       first_within = e.ensures.most;
       second_within = f.ensures.most;
-      first_left = remains con.first start (start + length t) c.args.firsts.now c.loop-number.first e.result t (events_of (drop (k + 1) log)) c.loop-number.invariant.first_within
-          (c.loop-number.invariant.first_left ∙ ap (places_from con.first start) (events-left log k t c.trace-trace.ensures)) refl e.ensures.least e.ensures.most e.ensures.before e.ensures.behind;
-      second_left = remains con.second start (start + length t) c.args.seconds.now c.loop-number.second f.result t (events_of (drop (k + 1) log)) c.loop-number.invariant.second_within
-          (c.loop-number.invariant.second_left ∙ ap (places_from con.second start) (events-left log k t c.trace-trace.ensures)) refl f.ensures.least f.ensures.most f.ensures.before f.ensures.behind;
+      first_left = remains con.first start c.args.firsts.now c.loop-number.first e.result log k t c.trace-trace.ensures c.loop-number.invariant.first_within c.loop-number.invariant.first_left
+          e.ensures.least e.ensures.most e.ensures.before e.ensures.behind;
+      second_left = remains con.second start c.args.seconds.now c.loop-number.second f.result log k t c.trace-trace.ensures c.loop-number.invariant.second_within c.loop-number.invariant.second_left
+          f.ensures.least f.ensures.most f.ensures.before f.ensures.behind;
       row = c.with_tally-row.ensures
           ∙ ap₂ (with_tally (k + 1) start) c.tally_of-tally.ensures c.loop-number.invariant.row
           ∙ sym (row-next con.kind con.first con.second start (2 ^ 64) log k t c.trace-trace.ensures (omega arith) c.loop-number.invariant.all);

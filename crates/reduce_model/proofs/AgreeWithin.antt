@@ -1,21 +1,20 @@
 -- Where no built list is wide, the reduction within a limit is the reduction.
-use Rattle.std.proofs.Common.{◌≡◌, ◌↔◌, ◌⊎◌, ℕ, zero, suc, ◌+◌, ◌<◌, ◌≤◌, inl, inr, List, [], ◌∷◌, ◌++◌, Bool, true, false, IsTrue, Some, length, map, take, drop, refl, sym, ap, ◌∙◌, subst, arith, append_assoc}
-use Rattle.std.specs.List.{All, AllByRecursion, slice_get}
+use Rattle.std.proofs.Common.{◌≡◌, ◌↔◌, ℕ, zero, suc, inr, List, [], ◌∷◌, ◌++◌, Bool, true, false, IsTrue, length, map, take, refl, sym, subst, arith, append_assoc}
+use Rattle.std.specs.List.{All, AllByRecursion}
 use Rattle.std.proofs.lemmas.List.{append-nil, take_all}
-use Rattle.dfa_core.specs.Languages.{HasNoMember, IsLeastMember}
+use Rattle.dfa_core.specs.Languages.{HasNoMember}
 use Rattle.dfa_core.specs.Traces.{IsTrace}
 use Rattle.template_core.specs.Constraints.{IsWellMadeFor}
 use Rattle.template_core.specs.declared.constraint.Constraint.{Constraint}
 use Rattle.reduce_model.proofs.Meaning.{same-traces}
-use Rattle.list_dfa.proofs.Keeping.{keeps-append, keeps-push, push-keeps}
+use Rattle.list_dfa.proofs.Keeping.{push-keeps}
 use Rattle.reduce_model.proofs.Reduces.{sift-narrow}
-use Rattle.reduce_model.specs.Building.{AreNarrow, Built, all_but_each, built_in, built_lists, growing, in_phase, tests, up_to_each}
-use Rattle.reduce_model.specs.Deciding.{IsAt, after, as_sifted, before, is_at_limit, is_consistent, is_kept, is_left, is_strongest, marked, those}
+use Rattle.reduce_model.specs.Building.{AreNarrow, Built, all_but_each, built_in, growing, in_phase, tests, up_to_each}
+use Rattle.reduce_model.specs.Deciding.{IsAt, after, as_sifted, before, is_at_limit, is_consistent, is_kept, is_left, is_strongest, those}
 use Rattle.reduce_model.specs.Keeping.{IsKeepable, KeepsAll, KeepsOne}
-use Rattle.list_dfa.specs.Lists.{IsNarrowList}
-use Rattle.reduce_model.specs.Reduction.{AreWitnesses, Breaks, Implies, IsReduction, Reduction}
-use Rattle.reduce_model.specs.Sifting.{IsNarrow, IsSift, IsSifted, Sifting, kept_of}
-use Rattle.reduce_model.specs.Within.{AreWitnessesWithin, IsClosed, IsFirstPassedWithin, IsReducedWithin, IsReductionWithin, IsSecondPassedWithin, IsSiftWithin, IsSiftedWithin, IsWideList, TellsUntested}
+use Rattle.reduce_model.specs.Reduction.{AreWitnesses, Implies, IsReduction, Reduction}
+use Rattle.reduce_model.specs.Sifting.{IsSift, IsSifted, Sifting, kept_of}
+use Rattle.reduce_model.specs.Within.{AreWitnessesWithin, IsClosed, IsFirstPassedWithin, IsReductionWithin, IsSecondPassedWithin, IsSiftWithin, IsSiftedWithin, IsWideList, TellsUntested}
 use Rattle.reduce_model.specs.declared.decision.Decision.{Decision}
 use Rattle.reduce_model.specs.declared.decision.Decision.TheVariants.{Kept, Conflict, Weaker, FirstPass, SecondPass, Beyond, Untested}
 
@@ -79,24 +78,32 @@ first-at c list d ds = record {
   decision = refl;
 }
 
-abbrev Conflicting : ℕ → List Constraint → List Constraint → List Decision → Type 0
-Conflicting n kept list ds = (place : ℕ) (c : Constraint) (d : Decision) → IsAt list ds place c d → d ≡ Conflict ↔ HasNoMember n (KeepsAll ((kept ++ before is_consistent place list ds) ++ c ∷ []))
+-- a fact of each candidate, by those before it that have a mark and those after it that stay
+abbrev Told : (Decision → Bool) → (List Constraint → List Constraint → Constraint → Decision → Type 0) → List Constraint → List Constraint → List Decision → Type 0
+Told mark F start list ds = (place : ℕ) (c : Constraint) (d : Decision) → IsAt list ds place c d → F (start ++ before mark place list ds) (after is_kept place list ds) c d
 
-conflicting-more : (n : ℕ) (kept : List Constraint) (c : Constraint) (list : List Constraint) (d : Decision) (ds : List Decision) → is_consistent d ≡ true → Conflicting n kept (c ∷ list) (d ∷ ds) → Conflicting n (kept ++ c ∷ []) list ds
-conflicting-more n kept c list d ds yes_ h place x e at =
-    let told = h (suc place) x e (next-at c list d ds place x e at) in
-    let is : kept ++ before is_consistent (suc place) (c ∷ list) (d ∷ ds) ≡ (kept ++ c ∷ []) ++ before is_consistent place list ds = rw yes_ (sym (append_assoc kept (c ∷ []) (before is_consistent place list ds))) in
-    rw is at told
+told-first : (mark : Decision → Bool) (F : List Constraint → List Constraint → Constraint → Decision → Type 0) (start : List Constraint) (c : Constraint) (list : List Constraint) (d : Decision) (ds : List Decision)
+    → Told mark F start (c ∷ list) (d ∷ ds) → F start (those is_kept list ds) c d
+told-first mark F start c list d ds h = rw (append-nil start) at (h 0 c d (first-at c list d ds))
 
-conflicting-past : (n : ℕ) (kept : List Constraint) (c : Constraint) (list : List Constraint) (d : Decision) (ds : List Decision) → is_consistent d ≡ false → Conflicting n kept (c ∷ list) (d ∷ ds) → Conflicting n kept list ds
-conflicting-past n kept c list d ds no_ h place x e at =
-    let told = h (suc place) x e (next-at c list d ds place x e at) in
-    let is : kept ++ before is_consistent (suc place) (c ∷ list) (d ∷ ds) ≡ kept ++ before is_consistent place list ds = rw no_ refl in
-    rw is at told
+told-more : (mark : Decision → Bool) (F : List Constraint → List Constraint → Constraint → Decision → Type 0) (start : List Constraint) (c : Constraint) (list : List Constraint) (d : Decision) (ds : List Decision) → mark d ≡ true
+    → Told mark F start (c ∷ list) (d ∷ ds) → Told mark F (start ++ c ∷ []) list ds
+told-more mark F start c list d ds yes_ h place x e at =
+    let is : start ++ before mark (suc place) (c ∷ list) (d ∷ ds) ≡ (start ++ c ∷ []) ++ before mark place list ds = rw yes_ (sym (append_assoc start (c ∷ []) (before mark place list ds))) in
+    subst (λ (l : List Constraint). F l (after is_kept place list ds) x e) is (h (suc place) x e (next-at c list d ds place x e at))
+
+told-past : (mark : Decision → Bool) (F : List Constraint → List Constraint → Constraint → Decision → Type 0) (start : List Constraint) (c : Constraint) (list : List Constraint) (d : Decision) (ds : List Decision) → mark d ≡ false
+    → Told mark F start (c ∷ list) (d ∷ ds) → Told mark F start list ds
+told-past mark F start c list d ds no_ h place x e at =
+    let is : start ++ before mark (suc place) (c ∷ list) (d ∷ ds) ≡ start ++ before mark place list ds = rw no_ refl in
+    subst (λ (l : List Constraint). F l (after is_kept place list ds) x e) is (h (suc place) x e (next-at c list d ds place x e at))
+
+abbrev Conflicting : ℕ → List Constraint → List Constraint → Constraint → Decision → Type 0
+Conflicting n front back c d = d ≡ Conflict ↔ HasNoMember n (KeepsAll (front ++ c ∷ []))
 
 -- one of the conflict-free model
 marks-joins : (n s : ℕ) (w : List ℕ) → IsTrace n w → (kept : List Constraint) (c : Constraint) (list : List Constraint) (d : Decision) (ds : List Decision)
-    → (Conflicting n (kept ++ c ∷ []) list ds → KeepsAll (kept ++ c ∷ []) w → IsSiftedWithin n s (kept ++ c ∷ []) list (map as_sifted ds)) → is_consistent d ≡ true → Conflicting n kept (c ∷ list) (d ∷ ds) → KeepsAll kept w
+    → (Told is_consistent (Conflicting n) (kept ++ c ∷ []) list ds → KeepsAll (kept ++ c ∷ []) w → IsSiftedWithin n s (kept ++ c ∷ []) list (map as_sifted ds)) → is_consistent d ≡ true → Told is_consistent (Conflicting n) kept (c ∷ list) (d ∷ ds) → KeepsAll kept w
     → KeepsOne c w → (IsClosed n s (kept ++ c ∷ []) → ⊥) → IsKeepable n (kept ++ c ∷ []) × (IsWideList n s (kept ++ c ∷ []) → ⊥) × IsSiftedWithin n s (kept ++ c ∷ []) list (map as_sifted ds)
 marks-joins n s w tw kept c list d ds rest yes_ told front one opens = (
   record {
@@ -105,103 +112,64 @@ marks-joins n s w tw kept c list d ds rest yes_ told front one opens = (
     keeps = push-keeps kept c w front one;
   },
   opens-narrow n s (kept ++ c ∷ []) opens,
-  rest (conflicting-more n kept c list d ds yes_ told) (push-keeps kept c w front one),
+  rest (told-more is_consistent (Conflicting n) kept c list d ds yes_ told) (push-keeps kept c w front one),
 )
 
-marks-within : (n s : ℕ) (w : List ℕ) → IsTrace n w → (kept list : List Constraint) (ds : List Decision) → length ds ≡ length list → AllByRecursion (λ (d : Decision). is_at_limit d ≡ false) ds → Conflicting n kept list ds
+marks-within : (n s : ℕ) (w : List ℕ) → IsTrace n w → (kept list : List Constraint) (ds : List Decision) → length ds ≡ length list → AllByRecursion (λ (d : Decision). is_at_limit d ≡ false) ds → Told is_consistent (Conflicting n) kept list ds
     → KeepsAll kept w → KeepsAll (those is_consistent list ds) w → AllByRecursion (λ (l : List Constraint). IsClosed n s l → ⊥) (up_to_each kept (those is_consistent list ds)) → IsSiftedWithin n s kept list (map as_sifted ds)
 marks-within n s w tw kept [] [] many none told front all opens = tt
 marks-within n s w tw kept [] (d ∷ ds) many none told front all opens = absurd (omega (arith, many))
 marks-within n s w tw kept (c ∷ list) [] many none told front all opens = absurd (omega (arith, many))
 marks-within n s w tw kept (c ∷ list) (Conflict ∷ ds) many none told front all opens =
-    let no_ : HasNoMember n (KeepsAll (kept ++ c ∷ [])) = rw (append-nil kept) at ((told 0 c Conflict (first-at c list Conflict ds)).0 refl) in
-    (no_, marks-within n s w tw kept list ds (omega (arith, many)) none.1 (conflicting-past n kept c list Conflict ds refl told) front all opens)
+    let no_ : HasNoMember n (KeepsAll (kept ++ c ∷ [])) = (told-first is_consistent (Conflicting n) kept c list Conflict ds told).0 refl in
+    (no_, marks-within n s w tw kept list ds (omega (arith, many)) none.1 (told-past is_consistent (Conflicting n) kept c list Conflict ds refl told) front all opens)
 marks-within n s w tw kept (c ∷ list) (Beyond ∷ ds) many none told front all opens = absurd (let no_ = none.0 in cc)
 marks-within n s w tw kept (c ∷ list) (Untested ∷ ds) many none told front all opens = absurd (let no_ = none.0 in cc)
-marks-within n s w tw kept (c ∷ list) (Kept ∷ ds) many none told front all opens = marks-joins n s w tw kept c list Kept ds (λ told_ front_. marks-within n s w tw (kept ++ c ∷ []) list ds (omega (arith, many)) none.1 told_ front_ all.1 opens.1) refl told front all.0 opens.0
-marks-within n s w tw kept (c ∷ list) (Weaker by ∷ ds) many none told front all opens = marks-joins n s w tw kept c list (Weaker by) ds (λ told_ front_. marks-within n s w tw (kept ++ c ∷ []) list ds (omega (arith, many)) none.1 told_ front_ all.1 opens.1) refl told front all.0 opens.0
-marks-within n s w tw kept (c ∷ list) (FirstPass ∷ ds) many none told front all opens = marks-joins n s w tw kept c list FirstPass ds (λ told_ front_. marks-within n s w tw (kept ++ c ∷ []) list ds (omega (arith, many)) none.1 told_ front_ all.1 opens.1) refl told front all.0 opens.0
-marks-within n s w tw kept (c ∷ list) (SecondPass ∷ ds) many none told front all opens = marks-joins n s w tw kept c list SecondPass ds (λ told_ front_. marks-within n s w tw (kept ++ c ∷ []) list ds (omega (arith, many)) none.1 told_ front_ all.1 opens.1) refl told front all.0 opens.0
+marks-within n s w tw kept (c ∷ list) (d ∷ ds) many none told front all opens =
+    marks-joins n s w tw kept c list d ds (λ told_ front_. marks-within n s w tw (kept ++ c ∷ []) list ds (omega (arith, many)) none.1 told_ front_ all.1 opens.1) refl told front all.0 opens.0
 
-abbrev FirstTold : ℕ → List Constraint → List Constraint → List Decision → Type 0
-FirstTold n joined list ds = (place : ℕ) (c : Constraint) (d : Decision) → IsAt list ds place c d → IsTrue (is_strongest d) → d ≡ FirstPass ↔ Implies n (joined ++ before is_left place list ds) c
+abbrev FirstTold : ℕ → List Constraint → List Constraint → Constraint → Decision → Type 0
+FirstTold n front back c d = IsTrue (is_strongest d) → d ≡ FirstPass ↔ Implies n front c
 
-told-more : (n : ℕ) (joined : List Constraint) (c : Constraint) (list : List Constraint) (d : Decision) (ds : List Decision) → is_left d ≡ true → FirstTold n joined (c ∷ list) (d ∷ ds) → FirstTold n (joined ++ c ∷ []) list ds
-told-more n joined c list d ds yes_ h place x e at strong =
-    let told = h (suc place) x e (next-at c list d ds place x e at) strong in
-    let is : joined ++ before is_left (suc place) (c ∷ list) (d ∷ ds) ≡ (joined ++ c ∷ []) ++ before is_left place list ds = rw yes_ (sym (append_assoc joined (c ∷ []) (before is_left place list ds))) in
-    rw is at told
-
-told-past : (n : ℕ) (joined : List Constraint) (c : Constraint) (list : List Constraint) (d : Decision) (ds : List Decision) → is_left d ≡ false → FirstTold n joined (c ∷ list) (d ∷ ds) → FirstTold n joined list ds
-told-past n joined c list d ds no_ h place x e at strong =
-    let told = h (suc place) x e (next-at c list d ds place x e at) strong in
-    let is : joined ++ before is_left (suc place) (c ∷ list) (d ∷ ds) ≡ joined ++ before is_left place list ds = rw no_ refl in
-    rw is at told
-
-told-first : (n : ℕ) (joined : List Constraint) (c : Constraint) (list : List Constraint) (d : Decision) (ds : List Decision) → FirstTold n joined (c ∷ list) (d ∷ ds) → IsTrue (is_strongest d) → d ≡ FirstPass ↔ Implies n joined c
-told-first n joined c list d ds h strong = rw (append-nil joined) at (h 0 c d (first-at c list d ds) strong)
-
-first-within : (n s : ℕ) (joined list : List Constraint) (ds : List Decision) → FirstTold n joined list ds → AllByRecursion (λ (l : List Constraint). IsClosed n s l → ⊥) (up_to_each joined (those is_left list ds)) → IsFirstPassedWithin n s joined list ds
+first-within : (n s : ℕ) (joined list : List Constraint) (ds : List Decision) → Told is_left (FirstTold n) joined list ds → AllByRecursion (λ (l : List Constraint). IsClosed n s l → ⊥) (up_to_each joined (those is_left list ds)) → IsFirstPassedWithin n s joined list ds
 first-within n s joined [] ds told opens = tt
 first-within n s joined (c ∷ list) [] told opens = tt
-first-within n s joined (c ∷ list) (Conflict ∷ ds) told opens = first-within n s joined list ds (told-past n joined c list Conflict ds refl told) opens
-first-within n s joined (c ∷ list) (Beyond ∷ ds) told opens = first-within n s joined list ds (told-past n joined c list Beyond ds refl told) opens
-first-within n s joined (c ∷ list) (Weaker by ∷ ds) told opens = first-within n s joined list ds (told-past n joined c list (Weaker by) ds refl told) opens
-first-within n s joined (c ∷ list) (FirstPass ∷ ds) told opens = ((told-first n joined c list FirstPass ds told refl).0 refl, first-within n s joined list ds (told-past n joined c list FirstPass ds refl told) opens)
-first-within n s joined (c ∷ list) (Kept ∷ ds) told opens =
-    (λ implies. let e = (told-first n joined c list Kept ds told refl).1 implies in cc, inr (opens-narrow n s (joined ++ c ∷ []) opens.0, first-within n s (joined ++ c ∷ []) list ds (told-more n joined c list Kept ds refl told) opens.1))
-first-within n s joined (c ∷ list) (SecondPass ∷ ds) told opens =
-    (λ implies. let e = (told-first n joined c list SecondPass ds told refl).1 implies in cc, inr (opens-narrow n s (joined ++ c ∷ []) opens.0, first-within n s (joined ++ c ∷ []) list ds (told-more n joined c list SecondPass ds refl told) opens.1))
-first-within n s joined (c ∷ list) (Untested ∷ ds) told opens =
-    (λ implies. let e = (told-first n joined c list Untested ds told refl).1 implies in cc, inr (opens-narrow n s (joined ++ c ∷ []) opens.0, first-within n s (joined ++ c ∷ []) list ds (told-more n joined c list Untested ds refl told) opens.1))
+first-within n s joined (c ∷ list) (Conflict ∷ ds) told opens = first-within n s joined list ds (told-past is_left (FirstTold n) joined c list Conflict ds refl told) opens
+first-within n s joined (c ∷ list) (Beyond ∷ ds) told opens = first-within n s joined list ds (told-past is_left (FirstTold n) joined c list Beyond ds refl told) opens
+first-within n s joined (c ∷ list) (Weaker by ∷ ds) told opens = first-within n s joined list ds (told-past is_left (FirstTold n) joined c list (Weaker by) ds refl told) opens
+first-within n s joined (c ∷ list) (FirstPass ∷ ds) told opens =
+    ((told-first is_left (FirstTold n) joined c list FirstPass ds told refl).0 refl, first-within n s joined list ds (told-past is_left (FirstTold n) joined c list FirstPass ds refl told) opens)
+first-within n s joined (c ∷ list) (d ∷ ds) told opens = (
+  λ implies. let e = (told-first is_left (FirstTold n) joined c list d ds told refl).1 implies in cc,
+  inr (opens-narrow n s (joined ++ c ∷ []) opens.0, first-within n s (joined ++ c ∷ []) list ds (told-more is_left (FirstTold n) joined c list d ds refl told) opens.1),
+)
 
-abbrev SecondTold : ℕ → List Constraint → List Constraint → List Decision → Type 0
-SecondTold n left list ds = (place : ℕ) (c : Constraint) (d : Decision) → IsAt list ds place c d → IsTrue (is_left d) → d ≡ SecondPass ↔ Implies n ((left ++ before is_left place list ds) ++ after is_kept place list ds) c
+abbrev SecondTold : ℕ → List Constraint → List Constraint → Constraint → Decision → Type 0
+SecondTold n front back c d = IsTrue (is_left d) → d ≡ SecondPass ↔ Implies n (front ++ back) c
 
-second-more : (n : ℕ) (left : List Constraint) (c : Constraint) (list : List Constraint) (d : Decision) (ds : List Decision) → is_left d ≡ true → SecondTold n left (c ∷ list) (d ∷ ds) → SecondTold n (left ++ c ∷ []) list ds
-second-more n left c list d ds yes_ h place x e at is_left_ =
-    let told = h (suc place) x e (next-at c list d ds place x e at) is_left_ in
-    let is : left ++ before is_left (suc place) (c ∷ list) (d ∷ ds) ≡ (left ++ c ∷ []) ++ before is_left place list ds = rw yes_ (sym (append_assoc left (c ∷ []) (before is_left place list ds))) in
-    rw is at told
-
-second-past : (n : ℕ) (left : List Constraint) (c : Constraint) (list : List Constraint) (d : Decision) (ds : List Decision) → is_left d ≡ false → SecondTold n left (c ∷ list) (d ∷ ds) → SecondTold n left list ds
-second-past n left c list d ds no_ h place x e at is_left_ =
-    let told = h (suc place) x e (next-at c list d ds place x e at) is_left_ in
-    let is : left ++ before is_left (suc place) (c ∷ list) (d ∷ ds) ≡ left ++ before is_left place list ds = rw no_ refl in
-    rw is at told
-
-second-first : (n : ℕ) (left : List Constraint) (c : Constraint) (list : List Constraint) (d : Decision) (ds : List Decision) → SecondTold n left (c ∷ list) (d ∷ ds) → IsTrue (is_left d) → d ≡ SecondPass ↔ Implies n (left ++ those is_kept list ds) c
-second-first n left c list d ds h is_left_ = rw (append-nil left) at (h 0 c d (first-at c list d ds) is_left_)
-
-second-within : (n s : ℕ) (left list : List Constraint) (ds : List Decision) → AllByRecursion (λ (d : Decision). is_at_limit d ≡ false) ds → SecondTold n left list ds → AllByRecursion (λ (l : List Constraint). IsClosed n s l → ⊥) (tests left list ds)
+second-within : (n s : ℕ) (left list : List Constraint) (ds : List Decision) → AllByRecursion (λ (d : Decision). is_at_limit d ≡ false) ds → Told is_left (SecondTold n) left list ds → AllByRecursion (λ (l : List Constraint). IsClosed n s l → ⊥) (tests left list ds)
     → IsSecondPassedWithin n s left list ds
 second-within n s left [] ds none told opens = tt
 second-within n s left (c ∷ list) [] none told opens = tt
-second-within n s left (c ∷ list) (Conflict ∷ ds) none told opens = second-within n s left list ds none.1 (second-past n left c list Conflict ds refl told) opens
-second-within n s left (c ∷ list) (Beyond ∷ ds) none told opens = second-within n s left list ds none.1 (second-past n left c list Beyond ds refl told) opens
-second-within n s left (c ∷ list) (Weaker by ∷ ds) none told opens = second-within n s left list ds none.1 (second-past n left c list (Weaker by) ds refl told) opens
-second-within n s left (c ∷ list) (FirstPass ∷ ds) none told opens = second-within n s left list ds none.1 (second-past n left c list FirstPass ds refl told) opens
 second-within n s left (c ∷ list) (Untested ∷ ds) none told opens = absurd (let no_ = none.0 in cc)
 second-within n s left (c ∷ list) (SecondPass ∷ ds) none told opens =
     let parts = all-split n s (tests (left ++ c ∷ []) list ds) ((left ++ those is_kept list ds) ∷ []) opens in
-    (parts.1.0, (second-first n left c list SecondPass ds told refl).0 refl, second-within n s (left ++ c ∷ []) list ds none.1 (second-more n left c list SecondPass ds refl told) parts.0)
+    (parts.1.0, (told-first is_left (SecondTold n) left c list SecondPass ds told refl).0 refl, second-within n s (left ++ c ∷ []) list ds none.1 (told-more is_left (SecondTold n) left c list SecondPass ds refl told) parts.0)
 second-within n s left (c ∷ list) (Kept ∷ ds) none told opens =
     let parts = all-split n s (tests (left ++ c ∷ []) list ds) ((left ++ those is_kept list ds) ∷ []) opens in
-    (λ implies. let e = (second-first n left c list Kept ds told refl).1 implies in absurd cc, second-within n s (left ++ c ∷ []) list ds none.1 (second-more n left c list Kept ds refl told) parts.0)
+    (λ implies. let e = (told-first is_left (SecondTold n) left c list Kept ds told refl).1 implies in absurd cc, second-within n s (left ++ c ∷ []) list ds none.1 (told-more is_left (SecondTold n) left c list Kept ds refl told) parts.0)
+second-within n s left (c ∷ list) (d ∷ ds) none told opens = second-within n s left list ds none.1 (told-past is_left (SecondTold n) left c list d ds refl told) opens
 
 untested-within : (n s : ℕ) (left kept list : List Constraint) (ds : List Decision) → AllByRecursion (λ (d : Decision). is_at_limit d ≡ false) ds → AllByRecursion (λ (l : List Constraint). IsClosed n s l → ⊥) (tests left list ds)
     → AllByRecursion (λ (l : List Constraint). IsClosed n s l → ⊥) (all_but_each kept (those is_kept list ds)) → TellsUntested n s left kept list ds
 untested-within n s left kept [] ds none opens others = tt
 untested-within n s left kept (c ∷ list) [] none opens others = tt
-untested-within n s left kept (c ∷ list) (Conflict ∷ ds) none opens others = untested-within n s left kept list ds none.1 opens others
-untested-within n s left kept (c ∷ list) (Beyond ∷ ds) none opens others = untested-within n s left kept list ds none.1 opens others
-untested-within n s left kept (c ∷ list) (Weaker by ∷ ds) none opens others = untested-within n s left kept list ds none.1 opens others
-untested-within n s left kept (c ∷ list) (FirstPass ∷ ds) none opens others = untested-within n s left kept list ds none.1 opens others
 untested-within n s left kept (c ∷ list) (Untested ∷ ds) none opens others = absurd (let no_ = none.0 in cc)
 untested-within n s left kept (c ∷ list) (SecondPass ∷ ds) none opens others =
     let parts = all-split n s (tests (left ++ c ∷ []) list ds) ((left ++ those is_kept list ds) ∷ []) opens in untested-within n s (left ++ c ∷ []) kept list ds none.1 parts.0 others
 untested-within n s left kept (c ∷ list) (Kept ∷ ds) none opens others =
     let parts = all-split n s (tests (left ++ c ∷ []) list ds) ((left ++ those is_kept list ds) ∷ []) opens in (parts.1.0, others.0, untested-within n s (left ++ c ∷ []) (kept ++ c ∷ []) list ds none.1 parts.0 others.1)
+untested-within n s left kept (c ∷ list) (d ∷ ds) none opens others = untested-within n s left kept list ds none.1 opens others
 
 witnesses-agree : (n : ℕ) (kept list : List Constraint) (ds : List Decision) (ws : List (List ℕ)) → length ds ≡ length list → AllByRecursion (λ (d : Decision). is_at_limit d ≡ false) ds → AreWitnesses n kept (those is_kept list ds) ws → AreWitnessesWithin n kept list ds ws
 witnesses-agree n kept [] [] [] many none h = tt
@@ -211,11 +179,7 @@ witnesses-agree n kept (c ∷ list) [] ws many none h = absurd (omega (arith, ma
 witnesses-agree n kept (c ∷ list) (Kept ∷ ds) [] many none h = absurd h
 witnesses-agree n kept (c ∷ list) (Kept ∷ ds) (w ∷ ws) many none h = (h.0, witnesses-agree n (kept ++ c ∷ []) list ds ws (omega (arith, many)) none.1 h.1)
 witnesses-agree n kept (c ∷ list) (Untested ∷ ds) ws many none h = absurd (let no_ = none.0 in cc)
-witnesses-agree n kept (c ∷ list) (Conflict ∷ ds) ws many none h = witnesses-agree n kept list ds ws (omega (arith, many)) none.1 h
-witnesses-agree n kept (c ∷ list) (Beyond ∷ ds) ws many none h = witnesses-agree n kept list ds ws (omega (arith, many)) none.1 h
-witnesses-agree n kept (c ∷ list) (Weaker by ∷ ds) ws many none h = witnesses-agree n kept list ds ws (omega (arith, many)) none.1 h
-witnesses-agree n kept (c ∷ list) (FirstPass ∷ ds) ws many none h = witnesses-agree n kept list ds ws (omega (arith, many)) none.1 h
-witnesses-agree n kept (c ∷ list) (SecondPass ∷ ds) ws many none h = witnesses-agree n kept list ds ws (omega (arith, many)) none.1 h
+witnesses-agree n kept (c ∷ list) (d ∷ ds) ws many none h = witnesses-agree n kept list ds ws (omega (arith, many)) none.1 h
 
 pub reduction-agrees : (n s : ℕ) (list : List Constraint) (reduction : Reduction) → All (IsWellMadeFor n) list → IsReduction n s list reduction → IsReductionWithin n s list reduction
 reduction-agrees n s list reduction made h =

@@ -46,49 +46,30 @@ told-at ds none place d is =
     ap is_told (sym ed) ∙ (sym (get_or-map is_told ds place Kept false lt) ∙ told-all ds none place lt)
 
 pub conflict-lacks : (d : Decision) → IsTrue (is_told d) → d ≡ Conflict ↔ is_consistent d ≡ false
-conflict-lacks Kept t = (λ e. cc, λ e. cc)
 conflict-lacks Conflict t = (λ e. refl, λ e. refl)
-conflict-lacks (Weaker by) t = (λ e. cc, λ e. cc)
-conflict-lacks FirstPass t = (λ e. cc, λ e. cc)
-conflict-lacks SecondPass t = (λ e. cc, λ e. cc)
 conflict-lacks Beyond t = cc
 conflict-lacks Untested t = cc
+conflict-lacks d t = (λ e. cc, λ e. cc)
 
 pub first_pass-lacks : (d : Decision) → IsTrue (is_strongest d) → d ≡ FirstPass ↔ is_left d ≡ false
-first_pass-lacks Kept s = (λ e. cc, λ e. cc)
-first_pass-lacks Conflict s = (λ e. cc, λ e. cc)
-first_pass-lacks (Weaker by) s = (λ e. cc, λ e. cc)
 first_pass-lacks FirstPass s = (λ e. refl, λ e. refl)
-first_pass-lacks SecondPass s = (λ e. cc, λ e. cc)
-first_pass-lacks Beyond s = (λ e. cc, λ e. cc)
-first_pass-lacks Untested s = (λ e. cc, λ e. cc)
+first_pass-lacks d s = (λ e. cc, λ e. cc)
 
 pub second_pass-lacks : (d : Decision) → IsTrue (is_left d) → d ≡ SecondPass ↔ is_kept d ≡ false
-second_pass-lacks Kept s = (λ e. cc, λ e. cc)
-second_pass-lacks Conflict s = (λ e. cc, λ e. cc)
-second_pass-lacks (Weaker by) s = (λ e. cc, λ e. cc)
-second_pass-lacks FirstPass s = (λ e. cc, λ e. cc)
 second_pass-lacks SecondPass s = (λ e. refl, λ e. refl)
-second_pass-lacks Beyond s = (λ e. cc, λ e. cc)
-second_pass-lacks Untested s = (λ e. cc, λ e. cc)
+second_pass-lacks d s = (λ e. cc, λ e. cc)
 
 pub left-strongest : (d : Decision) → is_strongest d ≡ false → is_left d ≡ false
 left-strongest Kept e = cc
-left-strongest Conflict e = refl
-left-strongest (Weaker by) e = refl
-left-strongest FirstPass e = refl
 left-strongest SecondPass e = cc
-left-strongest Beyond e = refl
 left-strongest Untested e = cc
+left-strongest d e = refl
 
 pub kept-left : (d : Decision) → is_left d ≡ false → is_kept d ≡ false
 kept-left Kept e = cc
-kept-left Conflict e = refl
-kept-left (Weaker by) e = refl
-kept-left FirstPass e = refl
 kept-left SecondPass e = cc
-kept-left Beyond e = refl
 kept-left Untested e = cc
+kept-left d e = refl
 
 -- a read past the end
 pub past : (p : Decision → Bool) (ds : List Decision) (place : ℕ) → length ds ≤ place → get_or (map p ds) place false ≡ false

@@ -1,11 +1,10 @@
 -- The decisions of the reduction within a limit are determined.
-use Rattle.std.proofs.Common.{◌≡◌, ◌⊎◌, ℕ, suc, ◌<◌, inl, inr, List, [], ◌∷◌, ◌++◌, Bool, true, false, length, map, get_or, refl, sym, ap, ◌∙◌, subst, arith}
+use Rattle.std.proofs.Common.{◌≡◌, ◌⊎◌, ℕ, ◌<◌, inl, inr, List, [], ◌∷◌, ◌++◌, Bool, true, false, length, map, get_or, refl, sym, ap, ◌∙◌, subst, arith}
 use Rattle.std.proofs.lemmas.List.{ext_get_or, get_or-map}
 use Rattle.dfa_core.specs.Languages.{IsLeastMember}
 use Rattle.template_core.specs.declared.constraint.Constraint.{Constraint}
 use Rattle.reduce_model.proofs.Consequences.{least_unique, three-same}
 use Rattle.reduce_model.proofs.Determined.{decision_same, same-mark, strongest_same, weaker_same}
-use Rattle.list_dfa.proofs.Keeping.{anything}
 use Rattle.reduce_model.proofs.MeaningWithin.{within-many}
 use Rattle.reduce_model.proofs.Reduces.{consistent-pruning}
 use Rattle.reduce_model.proofs.Writes.{map-map_same, view_same}
@@ -38,24 +37,53 @@ sifted_within_unique n s kept (x ∷ xs) (SecondPass ∷ ds) (e ∷ es) h g = ab
 sifted_within_unique n s kept (x ∷ xs) (Untested ∷ ds) (e ∷ es) h g = absurd h
 sifted_within_unique n s kept (x ∷ xs) (d ∷ ds) (e ∷ es) h g = absurd g
 
+-- ---- one mark after the other
+
+-- what is said of a list by its first decision: where two lists of decisions have the one mark alike, they have the other alike
+unique-by : (p q : Decision → Bool) (S : List Constraint → List Constraint → List Decision → Type 0)
+    → ((start : List Constraint) (c : Constraint) (list : List Constraint) (d : Decision) (ds : List Decision) (e : Decision) (es : List Decision) → ((start_ : List Constraint) → S start_ list ds → S start_ list es → map q ds ≡ map q es) → p d ≡ p e
+    → S start (c ∷ list) (d ∷ ds) → S start (c ∷ list) (e ∷ es) → map q (d ∷ ds) ≡ map q (e ∷ es))
+    → (start list : List Constraint) (ds es : List Decision) → length ds ≡ length list → map p ds ≡ map p es → S start list ds → S start list es → map q ds ≡ map q es
+unique-by p q S says start list [] [] many same h g = refl
+unique-by p q S says start list [] (e ∷ es) many same h g = cc
+unique-by p q S says start list (d ∷ ds) [] many same h g = cc
+unique-by p q S says start [] (d ∷ ds) (e ∷ es) many same h g = absurd (omega (arith, many))
+unique-by p q S says start (c ∷ list) (d ∷ ds) (e ∷ es) many same h g =
+    let here : p d ≡ p e = cc in
+    let rest : map p ds ≡ map p es = cc in
+    says start c list d ds e es (λ start_ a b. unique-by p q S says start_ list ds es (omega (arith, many)) rest a b) here h g
+
 -- ---- what a first decision says, by its marks
+
+-- it has neither of two marks, or the first alone, or both
+abbrev Says : (Decision → Bool) → (Decision → Bool) → Type 0 → Type 0 → Type 0 → Decision → Type 0
+Says p q Out Dropped Stays d = ((p d ≡ false) × (q d ≡ false) × Out) ⊎ (((p d ≡ true) × (q d ≡ false) × Dropped) ⊎ ((p d ≡ true) × (q d ≡ true) × Stays))
+
+-- where one that is dropped and one that stays can't both be
+says-same : (p q : Decision → Bool) {O D T O_ D_ T_ : Type 0} (d : Decision) (ds : List Decision) (e : Decision) (es : List Decision) → p d ≡ p e → Says p q O D T d → Says p q O_ D_ T_ e
+    → (O → O_ → map q ds ≡ map q es) → (D → D_ → map q ds ≡ map q es) → (T → T_ → map q ds ≡ map q es) → (D → T_ → ⊥) → (D_ → T → ⊥) → map q (d ∷ ds) ≡ map q (e ∷ es)
+says-same p q d ds e es here (inl h) (inl g) o dropped stays not_ other = let ih = o h.2 g.2 in let a = h.1 in let b = g.1 in cc (ih, a, b)
+says-same p q d ds e es here (inl h) (inr (inl g)) o dropped stays not_ other = let a = h.0 in let b = g.0 in absurd (cc (here, a, b))
+says-same p q d ds e es here (inl h) (inr (inr g)) o dropped stays not_ other = let a = h.0 in let b = g.0 in absurd (cc (here, a, b))
+says-same p q d ds e es here (inr (inl h)) (inl g) o dropped stays not_ other = let a = h.0 in let b = g.0 in absurd (cc (here, a, b))
+says-same p q d ds e es here (inr (inr h)) (inl g) o dropped stays not_ other = let a = h.0 in let b = g.0 in absurd (cc (here, a, b))
+says-same p q d ds e es here (inr (inl h)) (inr (inl g)) o dropped stays not_ other = let ih = dropped h.2 g.2 in let a = h.1 in let b = g.1 in cc (ih, a, b)
+says-same p q d ds e es here (inr (inl h)) (inr (inr g)) o dropped stays not_ other = absurd (not_ h.2 g.2)
+says-same p q d ds e es here (inr (inr h)) (inr (inl g)) o dropped stays not_ other = absurd (other g.2 h.2)
+says-same p q d ds e es here (inr (inr h)) (inr (inr g)) o dropped stays not_ other = let ih = stays h.2 g.2 in let a = h.1 in let b = g.1 in cc (ih, a, b)
 
 abbrev Joins : ℕ → ℕ → List Constraint → Constraint → List Constraint → List Decision → Type 0
 Joins n s joined c list ds = (IsWideList n s (joined ++ c ∷ []) × IsFirstPassedWithin n s joined list ds) ⊎ ((IsWideList n s (joined ++ c ∷ []) → ⊥) × IsFirstPassedWithin n s (joined ++ c ∷ []) list ds)
 
 abbrev FirstSays : ℕ → ℕ → List Constraint → Constraint → List Constraint → Decision → List Decision → Type 0
-FirstSays n s joined c list d ds =
-    ((is_strongest d ≡ false) × (is_left d ≡ false) × IsFirstPassedWithin n s joined list ds)
-    ⊎ (((is_strongest d ≡ true) × (is_left d ≡ false) × Implies n joined c × IsFirstPassedWithin n s joined list ds) ⊎ ((is_strongest d ≡ true) × (is_left d ≡ true) × (Implies n joined c → ⊥) × Joins n s joined c list ds))
+FirstSays n s joined c list d ds = Says is_strongest is_left (IsFirstPassedWithin n s joined list ds) (Implies n joined c × IsFirstPassedWithin n s joined list ds) ((Implies n joined c → ⊥) × Joins n s joined c list ds) d
 
 first-says : (n s : ℕ) (joined : List Constraint) (c : Constraint) (list : List Constraint) (d : Decision) (ds : List Decision) → IsFirstPassedWithin n s joined (c ∷ list) (d ∷ ds) → FirstSays n s joined c list d ds
-first-says n s joined c list Kept ds h = inr (inr (refl, refl, h.0, h.1))
 first-says n s joined c list Conflict ds h = inl (refl, refl, h)
 first-says n s joined c list (Weaker by) ds h = inl (refl, refl, h)
-first-says n s joined c list FirstPass ds h = inr (inl (refl, refl, h.0, h.1))
-first-says n s joined c list SecondPass ds h = inr (inr (refl, refl, h.0, h.1))
+first-says n s joined c list FirstPass ds h = inr (inl (refl, refl, h))
 first-says n s joined c list Beyond ds h = inl (refl, refl, h)
-first-says n s joined c list Untested ds h = inr (inr (refl, refl, h.0, h.1))
+first-says n s joined c list d ds h = inr (inr (refl, refl, h))
 
 left-joins : (n s : ℕ) (joined : List Constraint) (c : Constraint) (list : List Constraint) (ds es : List Decision) → ((joined_ : List Constraint) → IsFirstPassedWithin n s joined_ list ds → IsFirstPassedWithin n s joined_ list es → map is_left ds ≡ map is_left es) → Joins n s joined c list ds → Joins n s joined c list es → map is_left ds ≡ map is_left es
 left-joins n s joined c list ds es ih_ (inl h) (inl g) = ih_ joined h.1 g.1
@@ -63,74 +91,36 @@ left-joins n s joined c list ds es ih_ (inl h) (inr g) = absurd (g.0 h.0)
 left-joins n s joined c list ds es ih_ (inr h) (inl g) = absurd (h.0 g.0)
 left-joins n s joined c list ds es ih_ (inr h) (inr g) = ih_ (joined ++ c ∷ []) h.1 g.1
 
-left-says : (n s : ℕ) (joined : List Constraint) (c : Constraint) (list : List Constraint) (d : Decision) (ds : List Decision) (e : Decision) (es : List Decision) → ((joined_ : List Constraint) → IsFirstPassedWithin n s joined_ list ds → IsFirstPassedWithin n s joined_ list es → map is_left ds ≡ map is_left es) → is_strongest d ≡ is_strongest e
-    → FirstSays n s joined c list d ds → FirstSays n s joined c list e es → map is_left (d ∷ ds) ≡ map is_left (e ∷ es)
-left-says n s joined c list d ds e es ih_ here (inl h) (inl g) = let ih = ih_ joined h.2 g.2 in let a = h.1 in let b = g.1 in cc (ih, a, b)
-left-says n s joined c list d ds e es ih_ here (inl h) (inr (inl g)) = let a = h.0 in let b = g.0 in absurd (cc (here, a, b))
-left-says n s joined c list d ds e es ih_ here (inl h) (inr (inr g)) = let a = h.0 in let b = g.0 in absurd (cc (here, a, b))
-left-says n s joined c list d ds e es ih_ here (inr (inl h)) (inl g) = let a = h.0 in let b = g.0 in absurd (cc (here, a, b))
-left-says n s joined c list d ds e es ih_ here (inr (inr h)) (inl g) = let a = h.0 in let b = g.0 in absurd (cc (here, a, b))
-left-says n s joined c list d ds e es ih_ here (inr (inl h)) (inr (inl g)) = let ih = ih_ joined h.3 g.3 in let a = h.1 in let b = g.1 in cc (ih, a, b)
-left-says n s joined c list d ds e es ih_ here (inr (inl h)) (inr (inr g)) = absurd (g.2 h.2)
-left-says n s joined c list d ds e es ih_ here (inr (inr h)) (inr (inl g)) = absurd (h.2 g.2)
-left-says n s joined c list d ds e es ih_ here (inr (inr h)) (inr (inr g)) = let ih = left-joins n s joined c list ds es ih_ h.3 g.3 in let a = h.1 in let b = g.1 in cc (ih, a, b)
-
 left_unique : (n s : ℕ) (joined list : List Constraint) (ds es : List Decision) → length ds ≡ length list → map is_strongest ds ≡ map is_strongest es → IsFirstPassedWithin n s joined list ds → IsFirstPassedWithin n s joined list es → map is_left ds ≡ map is_left es
-left_unique n s joined [] [] [] many same h g = refl
-left_unique n s joined list [] (e ∷ es) many same h g = cc
-left_unique n s joined list (d ∷ ds) [] many same h g = cc
-left_unique n s joined (c ∷ list) [] [] many same h g = refl
-left_unique n s joined [] (d ∷ ds) (e ∷ es) many same h g = absurd (omega (arith, many))
-left_unique n s joined (c ∷ list) (d ∷ ds) (e ∷ es) many same h g =
-    let here : is_strongest d ≡ is_strongest e = cc in
-    let rest : map is_strongest ds ≡ map is_strongest es = cc in
-    left-says n s joined c list d ds e es (λ joined_ a b. left_unique n s joined_ list ds es (omega (arith, many)) rest a b) here (first-says n s joined c list d ds h) (first-says n s joined c list e es g)
+left_unique n s = unique-by is_strongest is_left (IsFirstPassedWithin n s) (λ joined c list d ds e es ih here h g.
+    says-same is_strongest is_left d ds e es here (first-says n s joined c list d ds h) (first-says n s joined c list e es g) (λ a b. ih joined a b) (λ a b. ih joined a.1 b.1) (λ a b. left-joins n s joined c list ds es ih a.1 b.1)
+    (λ a b. b.0 a.0) (λ a b. b.0 a.0))
 
 -- ---- the second pass
 
 abbrev SecondSays : ℕ → ℕ → List Constraint → Constraint → List Constraint → Decision → List Decision → Type 0
 SecondSays n s left c list d ds =
-    ((is_left d ≡ false) × (is_kept d ≡ false) × IsSecondPassedWithin n s left list ds)
-    ⊎ (((is_left d ≡ true) × (is_kept d ≡ false) × (IsClosed n s (left ++ those is_kept list ds) → ⊥) × Implies n (left ++ those is_kept list ds) c × IsSecondPassedWithin n s (left ++ c ∷ []) list ds)
-    ⊎ ((is_left d ≡ true) × (is_kept d ≡ true) × (Implies n (left ++ those is_kept list ds) c → IsClosed n s (left ++ those is_kept list ds)) × IsSecondPassedWithin n s (left ++ c ∷ []) list ds))
+    Says is_left is_kept (IsSecondPassedWithin n s left list ds)
+    ((IsClosed n s (left ++ those is_kept list ds) → ⊥) × Implies n (left ++ those is_kept list ds) c × IsSecondPassedWithin n s (left ++ c ∷ []) list ds)
+    ((Implies n (left ++ those is_kept list ds) c → IsClosed n s (left ++ those is_kept list ds)) × IsSecondPassedWithin n s (left ++ c ∷ []) list ds) d
 
 second-says : (n s : ℕ) (left : List Constraint) (c : Constraint) (list : List Constraint) (d : Decision) (ds : List Decision) → IsSecondPassedWithin n s left (c ∷ list) (d ∷ ds) → SecondSays n s left c list d ds
-second-says n s left c list Kept ds h = inr (inr (refl, refl, h.0, h.1))
-second-says n s left c list Conflict ds h = inl (refl, refl, h)
-second-says n s left c list (Weaker by) ds h = inl (refl, refl, h)
-second-says n s left c list FirstPass ds h = inl (refl, refl, h)
-second-says n s left c list SecondPass ds h = inr (inl (refl, refl, h.0, h.1, h.2))
-second-says n s left c list Beyond ds h = inl (refl, refl, h)
-second-says n s left c list Untested ds h = inr (inr (refl, refl, h.0, h.1))
+second-says n s left c list Kept ds h = inr (inr (refl, refl, h))
+second-says n s left c list SecondPass ds h = inr (inl (refl, refl, h))
+second-says n s left c list Untested ds h = inr (inr (refl, refl, h))
+second-says n s left c list d ds h = inl (refl, refl, h)
 
-kept-says : (n s : ℕ) (left : List Constraint) (c : Constraint) (list : List Constraint) (d : Decision) (ds : List Decision) (e : Decision) (es : List Decision) → ((left_ : List Constraint) → IsSecondPassedWithin n s left_ list ds → IsSecondPassedWithin n s left_ list es → map is_kept ds ≡ map is_kept es) → is_left d ≡ is_left e
-    → SecondSays n s left c list d ds → SecondSays n s left c list e es → map is_kept (d ∷ ds) ≡ map is_kept (e ∷ es)
-kept-says n s left c list d ds e es ih_ here (inl h) (inl g) = let ih = ih_ left h.2 g.2 in let a = h.1 in let b = g.1 in cc (ih, a, b)
-kept-says n s left c list d ds e es ih_ here (inl h) (inr (inl g)) = let a = h.0 in let b = g.0 in absurd (cc (here, a, b))
-kept-says n s left c list d ds e es ih_ here (inl h) (inr (inr g)) = let a = h.0 in let b = g.0 in absurd (cc (here, a, b))
-kept-says n s left c list d ds e es ih_ here (inr (inl h)) (inl g) = let a = h.0 in let b = g.0 in absurd (cc (here, a, b))
-kept-says n s left c list d ds e es ih_ here (inr (inr h)) (inl g) = let a = h.0 in let b = g.0 in absurd (cc (here, a, b))
-kept-says n s left c list d ds e es ih_ here (inr (inl h)) (inr (inl g)) = let ih = ih_ (left ++ c ∷ []) h.4 g.4 in let a = h.1 in let b = g.1 in cc (ih, a, b)
-kept-says n s left c list d ds e es ih_ here (inr (inl h)) (inr (inr g)) =
-    let ih = ih_ (left ++ c ∷ []) h.4 g.3 in
+-- a test that isn't closed and implies the constraint isn't another that is closed where it does
+not-both : (n s : ℕ) (left : List Constraint) (c : Constraint) (list : List Constraint) (ds es : List Decision) → map is_kept ds ≡ map is_kept es
+    → (IsClosed n s (left ++ those is_kept list ds) → ⊥) → Implies n (left ++ those is_kept list ds) c → (Implies n (left ++ those is_kept list es) c → IsClosed n s (left ++ those is_kept list es)) → ⊥
+not-both n s left c list ds es ih open_ implies closed =
     let rest : those is_kept list ds ≡ those is_kept list es = ap (λ (v : List Bool). marked v list) ih in
-    absurd (h.2 (rw rest (g.2 (rw (← rest) h.3))))
-kept-says n s left c list d ds e es ih_ here (inr (inr h)) (inr (inl g)) =
-    let ih = ih_ (left ++ c ∷ []) h.3 g.4 in
-    let rest : those is_kept list ds ≡ those is_kept list es = ap (λ (v : List Bool). marked v list) ih in
-    absurd (g.2 (rw (← rest) (h.2 (rw rest g.3))))
-kept-says n s left c list d ds e es ih_ here (inr (inr h)) (inr (inr g)) = let ih = ih_ (left ++ c ∷ []) h.3 g.3 in let a = h.1 in let b = g.1 in cc (ih, a, b)
+    open_ (rw rest (closed (rw (← rest) implies)))
 
 kept_unique : (n s : ℕ) (left list : List Constraint) (ds es : List Decision) → length ds ≡ length list → map is_left ds ≡ map is_left es → IsSecondPassedWithin n s left list ds → IsSecondPassedWithin n s left list es → map is_kept ds ≡ map is_kept es
-kept_unique n s left [] [] [] many same h g = refl
-kept_unique n s left list [] (e ∷ es) many same h g = cc
-kept_unique n s left list (d ∷ ds) [] many same h g = cc
-kept_unique n s left (c ∷ list) [] [] many same h g = refl
-kept_unique n s left [] (d ∷ ds) (e ∷ es) many same h g = absurd (omega (arith, many))
-kept_unique n s left (c ∷ list) (d ∷ ds) (e ∷ es) many same h g =
-    let here : is_left d ≡ is_left e = cc in
-    let rest : map is_left ds ≡ map is_left es = cc in
-    kept-says n s left c list d ds e es (λ left_ a b. kept_unique n s left_ list ds es (omega (arith, many)) rest a b) here (second-says n s left c list d ds h) (second-says n s left c list e es g)
+kept_unique n s = unique-by is_left is_kept (IsSecondPassedWithin n s) (λ left c list d ds e es ih here h g.
+    says-same is_left is_kept d ds e es here (second-says n s left c list d ds h) (second-says n s left c list e es g) (λ a b. ih left a b) (λ a b. ih (left ++ c ∷ []) a.2 b.2) (λ a b. ih (left ++ c ∷ []) a.1 b.1)
+    (λ a b. not-both n s left c list ds es (ih (left ++ c ∷ []) a.2 b.1) a.0 a.1 b.0) (λ a b. not-both n s left c list es ds (sym (ih (left ++ c ∷ []) b.1 a.2)) a.0 a.1 b.0))
 
 -- ---- the untested ones
 
@@ -143,12 +133,9 @@ UntestedSays n s left kept c list d ds =
 
 untested-says : (n s : ℕ) (left kept : List Constraint) (c : Constraint) (list : List Constraint) (d : Decision) (ds : List Decision) → TellsUntested n s left kept (c ∷ list) (d ∷ ds) → UntestedSays n s left kept c list d ds
 untested-says n s left kept c list Kept ds h = inr (inr (inl (refl, refl, refl, h.0, h.1, h.2)))
-untested-says n s left kept c list Conflict ds h = inl (refl, refl, h)
-untested-says n s left kept c list (Weaker by) ds h = inl (refl, refl, h)
-untested-says n s left kept c list FirstPass ds h = inl (refl, refl, h)
 untested-says n s left kept c list SecondPass ds h = inr (inl (refl, refl, refl, h))
-untested-says n s left kept c list Beyond ds h = inl (refl, refl, h)
 untested-says n s left kept c list Untested ds h = inr (inr (inr (refl, refl, refl, h.0, h.1)))
+untested-says n s left kept c list d ds h = inl (refl, refl, h)
 
 -- not both
 closed-or : (n s : ℕ) (a b x y : List Constraint) → x ≡ a → y ≡ b → (IsClosed n s a → ⊥) → (IsClosed n s b → ⊥) → IsClosed n s x ⊎ IsClosed n s y → ⊥

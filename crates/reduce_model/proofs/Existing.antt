@@ -41,6 +41,16 @@ past-end [] place le = refl
 past-end (a ∷ v) zero le = absurd (omega (arith, le))
 past-end (a ∷ v) (suc place) le = past-end v place (omega (arith, le))
 
+-- what is said of each place up to one more that is put behind
+pushed-each : {A : Type 0} (P : ℕ → A → Type 0) (xs : List A) (x d : A) (i : ℕ) → length xs ≡ i → ((place : ℕ) → place < i → P place (get_or xs place d)) → P i x
+    → (place : ℕ) → place < suc i → P place (get_or (xs ++ x ∷ []) place d)
+pushed-each P xs x d i long each here place lt = elim (cases_lt place i) [
+  | inl before ↦ rw (get_or_append_left xs (x ∷ []) d place (omega (arith, long, before))) (each place before)
+  | inr le ↦
+      let e : place ≡ i = omega arith in
+      rw (e, get_or_push xs x d i long) here
+]
+
 push : (F : List Constraint → Constraint → Type 0) (q : ℕ → Bool) (list : List Constraint) (i : ℕ) (h : MarksTo F q list i) (x : Bool) → (x ≡ true → q i ≡ true)
     → (q i ≡ true → x ≡ false ↔ F (marked h.v (take i list)) (get_or list i anything)) → MarksTo F q list (suc i)
 push F q list i h x inside says =
@@ -48,17 +58,9 @@ push F q list i h x inside says =
     record {
       v = h.v ++ x ∷ [];
       long = length_push h.v x ∙ omega arith;
-      forward = λ place lt holds. elim (cases_lt place i) [
-        | inl before ↦
-            let e1 : get_or (h.v ++ x ∷ []) place false ≡ get_or h.v place false = get_or_append_left h.v (x ∷ []) false place (omega arith) in
-            let e2 : take place (h.v ++ x ∷ []) ≡ take place h.v = take-append-le place h.v (x ∷ []) (omega arith) in
-            rw (e1, e2) (h.forward place before holds)
-        | inr le ↦
-            let e : place ≡ i = omega arith in
-            let e1 : get_or (h.v ++ x ∷ []) i false ≡ x = get_or_push h.v x false i long in
-            let e2 : take i (h.v ++ x ∷ []) ≡ h.v = take-append-le i h.v (x ∷ []) (omega arith) ∙ take_all i h.v (omega arith) in
-            rw (e, e1, e2) (says (rw e at holds))
-      ];
+      forward = pushed-each (λ place mark. q place ≡ true → mark ≡ false ↔ F (marked (take place (h.v ++ x ∷ [])) (take place list)) (get_or list place anything)) h.v x false i long
+          (λ place before holds. rw (take-append-le place h.v (x ∷ []) (omega arith)) (h.forward place before holds))
+          (λ holds. let e : take i (h.v ++ x ∷ []) ≡ h.v = take-append-le i h.v (x ∷ []) (omega arith) ∙ take_all i h.v (omega arith) in rw e (says holds));
       within = λ place has. elim (cases_lt place i) [
         | inl before ↦ h.within place (sym (get_or_append_left h.v (x ∷ []) false place (omega arith)) ∙ has)
         | inr le ↦ elim (cases_eq place i) [
@@ -180,15 +182,7 @@ add list marks i h o says =
     record {
       ws = h.ws ++ o ∷ [];
       long = length_push h.ws o ∙ omega arith;
-      says = λ place lt by. elim (cases_lt place i) [
-        | inl before ↦
-            let e1 : get_or (h.ws ++ o ∷ []) place None ≡ get_or h.ws place None = get_or_append_left h.ws (o ∷ []) None place (omega arith) in
-            rw e1 (h.says place before by)
-        | inr le ↦
-            let e : place ≡ i = omega arith in
-            let e1 : get_or (h.ws ++ o ∷ []) i None ≡ o = get_or_push h.ws o None i long in
-            rw (e, e1) (says by)
-      ];
+      says = pushed-each (λ place found. (by : ℕ) → found ≡ Some by ↔ IsFirstAbove list marks (get_or list place anything) by) h.ws o None i long h.says says;
     }
 
 weaker-exists : (list : List Constraint) (marks : List Bool) (i : ℕ) → CantFail (WeakerTo list marks i)
@@ -251,29 +245,23 @@ strongest_mark false w = false
 strongest_mark true (Some by) = false
 strongest_mark true None = true
 
-consistent-left : (l k : Bool) → is_consistent (decide_left l k) ≡ true
+true-left : (test : Decision → Bool) → test Kept ≡ true → test SecondPass ≡ true → test FirstPass ≡ true → (l k : Bool) → test (decide_left l k) ≡ true
 unfolding decide_left
-consistent-left true true = refl
-consistent-left true false = refl
-consistent-left false k = refl
+true-left test kept second first true true = kept
+true-left test kept second first true false = second
+true-left test kept second first false k = first
 
 consistent-decide : (a : Bool) (w : Option ℕ) (l k : Bool) → is_consistent (decide a w l k) ≡ a
 unfolding decide
 consistent-decide false w l k = refl
 consistent-decide true (Some by) l k = refl
-consistent-decide true None l k = consistent-left l k
-
-strongest-left : (l k : Bool) → is_strongest (decide_left l k) ≡ true
-unfolding decide_left
-strongest-left true true = refl
-strongest-left true false = refl
-strongest-left false k = refl
+consistent-decide true None l k = true-left is_consistent refl refl refl l k
 
 strongest-decide : (a : Bool) (w : Option ℕ) (l k : Bool) → is_strongest (decide a w l k) ≡ strongest_mark a w
 unfolding decide strongest_mark
 strongest-decide false w l k = refl
 strongest-decide true (Some by) l k = refl
-strongest-decide true None l k = strongest-left l k
+strongest-decide true None l k = true-left is_strongest refl refl refl l k
 
 left-left : (l k : Bool) → is_left (decide_left l k) ≡ l
 unfolding decide_left

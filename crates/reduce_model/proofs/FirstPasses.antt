@@ -10,7 +10,7 @@ use Rattle.dfa_minimise.specs.Wide.{IsWide}
 use Rattle.template_core.specs.declared.constraint.Constraint.{Constraint}
 use Rattle.reduce_model.proofs.Determined.{Has, first_pass_forward, forward_first_pass, left_same_below}
 use Rattle.reduce_model.proofs.Lists.{phase-narrow, up-first, up-narrow}
-use Rattle.reduce_model.proofs.Marks.{IsForward, true_or_false}
+use Rattle.reduce_model.proofs.Marks.{IsForward, forward-more, true_or_false}
 use Rattle.list_dfa.proofs.Keeping.{anything, keeps-push, push-keeps}
 use Rattle.reduce_model.proofs.Members.{keeps-stable}
 use Rattle.dfa_minimise.proofs.Widths.{over-wide, wide-over}
@@ -22,20 +22,17 @@ use Rattle.reduce_model.specs.Building.{IsFirstOfWide, in_phase, up_to_each}
 use Rattle.reduce_model.specs.Deciding.{is_kept, is_left, is_strongest, marked, those}
 use Rattle.list_dfa.specs.Extending.{AcceptsBroken, AcceptsKept, Extends}
 use Rattle.reduce_model.specs.Keeping.{KeepsAll}
-use Rattle.reduce_model.specs.Passes.{IsFirstPassed, before_first_pass, before_second_pass}
+use Rattle.reduce_model.specs.Passes.{IsFirstPassed, IsFirstPrefixAlone, before_first_pass, before_second_pass}
 use Rattle.list_dfa.specs.Lists.{IsAutomatonOf, IsNarrowList}
 use Rattle.reduce_model.specs.Reduction.{Breaks, Implies, TellsFirstPass}
 use Rattle.reduce_model.specs.declared.decision.Decision.{Decision}
-use Rattle.reduce_model.specs.declared.decision.Decision.TheVariants.{Kept, Conflict, Weaker, FirstPass, SecondPass, Beyond, Untested}
+use Rattle.reduce_model.specs.declared.decision.Decision.TheVariants.{Kept, Conflict, Weaker, FirstPass, Beyond, Untested}
 use Rattle.reduce_model.specs.declared.prefixes.Prefix.{Prefix}
 
 -- ---- what keeps and breaks
 
 pub none-implies : (n : ℕ) (list : List Constraint) (c : Constraint) → HasNoMember n (Breaks list c) → Implies n list c
 none-implies n list c none w tw kept = keeps-stable c w (λ broken. none w tw (kept, broken))
-
-pub implies-none : (n : ℕ) (list : List Constraint) (c : Constraint) → Implies n list c → HasNoMember n (Breaks list c)
-implies-none n list c implies w tw both = both.1 (implies w tw both.0)
 
 -- a narrow list and one more constraint, with which it isn't wide
 pub narrow-push : (n s : ℕ) (list : List Constraint) (c : Constraint) → IsNarrowList n s list → (IsWide n (KeepsAll (list ++ c ∷ [])) s → ⊥) → IsNarrowList n s (list ++ c ∷ [])
@@ -65,12 +62,7 @@ pub record IsPassing (n s : ℕ) (list : List Constraint) (old new : List Decisi
 
 passes-passes : (d : Decision) → before_second_pass (before_first_pass d) ≡ before_first_pass d
 passes-passes Kept = refl
-passes-passes Conflict = refl
-passes-passes (Weaker by) = refl
-passes-passes FirstPass = refl
-passes-passes SecondPass = refl
-passes-passes Beyond = refl
-passes-passes Untested = refl
+passes-passes d = refl
 
 pub passing-none : (n s : ℕ) (list : List Constraint) (old : List Decision) (left : Automaton) (size : ℕ) → length old ≡ length list → 1 ≤ s → map before_first_pass old ≡ old → IsEverything n left → size ≡ 0
     → IsPassing n s list old old 0 left size
@@ -87,31 +79,19 @@ passing-none n s list old left size many some pruned every zero_ = record {
 
 -- a decision that the passes haven't marked and that doesn't stand is not among the strongest
 pub not-strongest : (d : Decision) → d ≡ before_first_pass d → is_kept d ≡ false → (is_strongest d ≡ false) × (is_left d ≡ false)
-not-strongest Kept e k = (cc, cc)
 not-strongest Conflict e k = (refl, refl)
 not-strongest (Weaker by) e k = (refl, refl)
-not-strongest FirstPass e k = (cc, cc)
-not-strongest SecondPass e k = (cc, cc)
 not-strongest Beyond e k = (refl, refl)
-not-strongest Untested e k = (cc, cc)
+not-strongest d e k = (cc, cc)
 
 strongest-passes : (d : Decision) → is_strongest (before_first_pass d) ≡ is_strongest d
 strongest-passes Kept = refl
-strongest-passes Conflict = refl
-strongest-passes (Weaker by) = refl
-strongest-passes FirstPass = refl
-strongest-passes SecondPass = refl
-strongest-passes Beyond = refl
-strongest-passes Untested = refl
+strongest-passes d = refl
 
 pub is-kept : (d : Decision) → (d ≡ Untested → ⊥) → is_kept d ≡ true → d ≡ Kept
 is-kept Kept u e = refl
-is-kept Conflict u e = cc
-is-kept (Weaker by) u e = cc
-is-kept FirstPass u e = cc
-is-kept SecondPass u e = cc
-is-kept Beyond u e = cc
 is-kept Untested u e = absurd (u refl)
+is-kept d u e = cc
 
 pub fresh-tested : (f : Decision → Decision) → f Untested ≡ Kept → (d : Decision) → d ≡ f d → d ≡ Untested → ⊥
 fresh-tested f k d e u = let no_ : Untested ≡ Kept = sym u ∙ (e ∙ (ap f u ∙ k)) in cc
@@ -129,7 +109,7 @@ before-has list marks at lm ll has =
     let e : marked (get_or marks at false ∷ []) (get_or list at anything ∷ []) ≡ get_or list at anything ∷ [] = ap (λ (b : Bool). marked (b ∷ []) (get_or list at anything ∷ [])) has in
     rw add-one (marked-next marks list at lm ll ∙ ap (λ (l : List Constraint). marked (take at marks) (take at list) ++ l) e)
 
-module _ (n s : ℕ) (list : List Constraint) (old new : List Decision) (at : ℕ) (left : Automaton) (size : ℕ) (in_list : at < length list) (h : IsPassing n s list old new at left size) where
+module _ {n s : ℕ} {list : List Constraint} {old new : List Decision} {at : ℕ} {left : Automaton} {size : ℕ} (in_list : at < length list) (h : IsPassing n s list old new at left size) where
   within : at < length new
   within = let many = h.as_many in omega (arith, many, in_list)
 
@@ -146,14 +126,8 @@ module _ (n s : ℕ) (list : List Constraint) (old new : List Decision) (at : �
         as_many = h.as_many;
         same = h.same;
         later = h.later;
-        forward = λ place lt q. elim (cases_lt place at) [
-          | inl before ↦ h.forward place before q
-          | inr le ↦
-              let e : place ≡ at = omega arith in
-              let has : get_or (map is_strongest new) at false ≡ true = rw e at q in
-              let no_ : get_or (map is_strongest new) at false ≡ false = get_or-map is_strongest new at Kept false within ∙ other.0 in
-              absurd (cc (has, no_))
-        ];
+        forward = forward-more (Implies n) (Has is_strongest new) list (map is_left new) at h.forward
+            (λ has. let no_ : get_or (map is_strongest new) at false ≡ false = get_or-map is_strongest new at Kept false within ∙ other.0 in absurd (cc (has, no_)));
         fresh = λ place le lt. h.fresh place (omega arith) lt;
         automaton = rw same_list h.automaton;
         counted = rw same_list h.counted;
@@ -189,12 +163,7 @@ module _ (n s : ℕ) (list : List Constraint) (old new : List Decision) (at : �
       as_many = h.as_many;
       same = h.same;
       later = h.later;
-      forward = λ place lt q. elim (cases_lt place at) [
-        | inl before ↦ h.forward place before q
-        | inr le ↦
-            let e : place ≡ at = omega arith in
-            rw e (λ lacks. absurd (cc (has_left, lacks)), λ implies. absurd (not_implied broken implies))
-      ];
+      forward = forward-more (Implies n) (Has is_strongest new) list (map is_left new) at h.forward (λ q. (λ lacks. absurd (cc (has_left, lacks)), λ implies. absurd (not_implied broken implies)));
       fresh = λ place le lt. h.fresh place (omega arith) lt;
       automaton = rw longer (record {
         over = x.over ∙ h.automaton.over;
@@ -294,8 +263,8 @@ module _ (n s : ℕ) (list : List Constraint) (old new : List Decision) (at : �
 
 -- ---- the end
 
-pub passing-all : (n s : ℕ) (list : List Constraint) (old new : List Decision) (at : ℕ) (left : Automaton) (size : ℕ) → length list ≤ at → IsPassing n s list old new at left size → IsFirstPassed n s list old new
-passing-all n s list old new at left size past h =
+pub passing-all : {n s : ℕ} {list : List Constraint} {old new : List Decision} {at : ℕ} {left : Automaton} {size : ℕ} → length list ≤ at → IsPassing n s list old new at left size → IsFirstPassed n s list old new
+passing-all {n = n} {s = s} {list = list} {old = old} {new = new} {at = at} past h =
     let many = h.as_many in
     let long = length-map new is_left in
     let marks : take at (map is_left new) ≡ map is_left new = take_all at (map is_left new) (omega (arith, many, long, past)) in
@@ -314,8 +283,8 @@ length-marked (m ∷ marks) [] = omega arith
 length-marked (true ∷ marks) (c ∷ list) = let ih = length-marked marks list in omega (arith, ih)
 length-marked (false ∷ marks) (c ∷ list) = let ih = length-marked marks list in omega (arith, ih)
 
-pub passing-size : (n s : ℕ) (list : List Constraint) (old new : List Decision) (at : ℕ) (left : Automaton) (size : ℕ) → IsPassing n s list old new at left size → size ≤ length list
-passing-size n s list old new at left size h =
+pub passing-size : {n s : ℕ} {list : List Constraint} {old new : List Decision} {at : ℕ} {left : Automaton} {size : ℕ} → IsPassing n s list old new at left size → size ≤ length list
+passing-size {n = n} {s = s} {list = list} {old = old} {new = new} {at = at} h =
     let counted = h.counted in
     let few = length-marked (take at (map is_left new)) (take at list) in
     let front = length-take_le at list in
@@ -324,9 +293,9 @@ passing-size n s list old new at left size h =
 -- ---- the prefixes that are kept
 
 -- what is left so far
-pub passing-prefix : (n s : ℕ) (list : List Constraint) (old new : List Decision) (prefix : Prefix) → prefix.place ≤ length list → IsPassing n s list old new prefix.place prefix.dfa prefix.length
+pub passing-prefix : {n s : ℕ} {list : List Constraint} {old new : List Decision} (prefix : Prefix) → prefix.place ≤ length list → IsPassing n s list old new prefix.place prefix.dfa prefix.length
     → IsPrefixUpTo n s list (map is_left new) prefix.place prefix
-passing-prefix n s list old new prefix le h = record {
+passing-prefix prefix le h = record {
   before = omega arith;
   is = record {
     within = le;
@@ -341,20 +310,21 @@ pub marked-later : (new : List Decision) (at : ℕ) (d : Decision) (place : ℕ)
 marked-later new at d place le = ap (take place) (map-set is_left new at d) ∙ take-set-le place (map is_left new) at (is_left d) le
 
 -- the one that every trace keeps
-pub kept-first : (n s : ℕ) (list : List Constraint) (marks : List Bool) (old new : List Prefix) (prefix : Prefix) → old ≡ [] → new ≡ old ++ prefix ∷ [] → 1 ≤ s → IsEverything n prefix.dfa → prefix.place ≡ 0 → prefix.length ≡ 0
-    → AreKeptUpTo n s list marks 0 new
-kept-first n s list marks old new prefix empty pushed some every place_ length_ =
-    let is : IsPrefixUpTo n s list marks 0 prefix = record {
+pub kept-first : (n s : ℕ) (list : List Constraint) (marks : List Bool) (prefixes : List Prefix) → 1 ≤ s → IsFirstPrefixAlone n prefixes → AreKeptUpTo n s list marks 0 prefixes
+kept-first n s list marks prefixes some first =
+    let place_ = first.empty.place in
+    let none = first.empty.none in
+    let is : IsPrefixUpTo n s list marks 0 first.prefix = record {
       before = omega arith;
       is = record {
         within = omega arith;
-        automaton = rw place_ (every-automaton n prefix.dfa every);
-        counted = rw (place_, length_) refl;
+        automaton = rw place_ (every-automaton n first.prefix.dfa first.empty.every);
+        counted = rw (place_, none) refl;
         narrow = rw place_ (λ size wide. empty-narrow n s some (rw (take-nil size) at wide));
       };
     } in
-    rw (pushed, empty) (record {
+    rw first.alone (record {
       some = omega arith;
       first = λ d. place_;
-      are = All-cons (IsPrefixUpTo n s list marks 0) prefix [] is (All-nil (IsPrefixUpTo n s list marks 0));
+      are = All-cons (IsPrefixUpTo n s list marks 0) first.prefix [] is (All-nil (IsPrefixUpTo n s list marks 0));
     })

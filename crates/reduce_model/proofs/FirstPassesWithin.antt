@@ -1,5 +1,5 @@
 -- The first pass within a limit that goes on by one candidate.
-use Rattle.std.proofs.Common.{◌≡◌, ◌↔◌, ℕ, zero, suc, ◌+◌, ◌<◌, ◌≤◌, inl, inr, List, [], ◌∷◌, ◌++◌, Bool, true, false, length, map, take, drop, get_or, refl, sym, ap, ◌∙◌, subst, arith, add-one, append_assoc, drop-cons, length-append}
+use Rattle.std.proofs.Common.{◌≡◌, ◌↔◌, ℕ, ◌+◌, ◌<◌, ◌≤◌, inl, inr, List, [], ◌∷◌, ◌++◌, Bool, true, false, length, map, take, drop, get_or, refl, sym, ap, ◌∙◌, arith, add-one, append_assoc, drop-cons}
 use Rattle.std.proofs.lemmas.Bool.{cases_lt}
 use Rattle.std.proofs.lemmas.List.{append-nil, drop_all, get_or-map, get_or_push, length-map, length_push, map-append, take-append-le, take-map, take-take, take_all, take_more}
 use Rattle.dfa_core.specs.Automaton.{Automaton, IsEverything}
@@ -17,10 +17,10 @@ use Rattle.reduce_model.proofs.Writes.{fixed-at, marked-split}
 use Rattle.reduce_model.specs.Deciding.{is_kept, is_left, marked}
 use Rattle.list_dfa.specs.Extending.{AcceptsBroken, AcceptsKept, Extends}
 use Rattle.reduce_model.specs.Keeping.{KeepsAll}
-use Rattle.reduce_model.specs.Passes.{AreClosedPast, IsFirstPassedOf, before_first_pass, before_second_pass}
+use Rattle.reduce_model.specs.Passes.{IsFirstPassedOf, before_first_pass, before_second_pass}
 use Rattle.list_dfa.specs.Lists.{IsAutomatonOf, IsNarrowList}
-use Rattle.reduce_model.specs.Reduction.{Breaks, Implies}
-use Rattle.reduce_model.specs.Within.{IsClosed, IsFirstPassedWithin, IsWideList}
+use Rattle.reduce_model.specs.Reduction.{Implies}
+use Rattle.reduce_model.specs.Within.{IsFirstPassedWithin, IsWideList}
 use Rattle.reduce_model.specs.declared.decision.Decision.{Decision}
 use Rattle.reduce_model.specs.declared.decision.Decision.TheVariants.{Kept, Conflict, Weaker, FirstPass, SecondPass, Beyond, Untested}
 use Rattle.reduce_model.specs.declared.first_within.FirstPassed.{FirstPassed}
@@ -84,24 +84,17 @@ module _ (list : List Constraint) (new : List Decision) (at : ℕ) (d : Decision
 -- one that doesn't stand is passed by
 passes-by : (n s : ℕ) (joined : List Constraint) (c : Constraint) (list : List Constraint) (d : Decision) (es : List Decision) → d ≡ before_first_pass d → is_kept d ≡ false → IsFirstPassedWithin n s joined list es
     → IsFirstPassedWithin n s joined (c ∷ list) (d ∷ es)
-passes-by n s joined c list Kept es e k h = cc
 passes-by n s joined c list Conflict es e k h = h
 passes-by n s joined c list (Weaker by) es e k h = h
-passes-by n s joined c list FirstPass es e k h = cc
-passes-by n s joined c list SecondPass es e k h = cc
 passes-by n s joined c list Beyond es e k h = h
-passes-by n s joined c list Untested es e k h = cc
+passes-by n s joined c list d es e k h = cc
 
 fixed-twice : (d : Decision) → d ≡ before_first_pass d → before_second_pass d ≡ d
-fixed-twice Kept e = refl
-fixed-twice Conflict e = refl
-fixed-twice (Weaker by) e = refl
-fixed-twice FirstPass e = refl
 fixed-twice SecondPass e = cc
-fixed-twice Beyond e = refl
 fixed-twice Untested e = cc
+fixed-twice d e = refl
 
-module _ (n s : ℕ) (list : List Constraint) (old new : List Decision) (at : ℕ) (dfa : Automaton) (size wide : ℕ) (prefixes : List Prefix) (in_list : at < length list) (many_old : length old ≡ length list)
+module _ {n s : ℕ} {list : List Constraint} {old new : List Decision} {at : ℕ} {dfa : Automaton} {size wide : ℕ} {prefixes : List Prefix} (in_list : at < length list) (many_old : length old ≡ length list)
     (h : IsPassingWithin n s list old new at dfa size wide prefixes) where
   abbrev c : Constraint
   c = get_or list at anything

@@ -1,5 +1,5 @@
 -- What is sought with an automaton that constraints have joined.
-use Rattle.std.proofs.Common.{◌≡◌, ◌↔◌, ℕ, ◌+◌, ◌-◌, List, ◌++◌, length, ap, ◌∙◌}
+use Rattle.std.proofs.Common.{◌≡◌, ◌↔◌, ℕ, ◌+◌, List, ◌++◌, length, ap, ◌∙◌}
 use Rattle.dfa_core.specs.Automaton.{Automaton}
 use Rattle.dfa_core.specs.Languages.{HasNoMember, IsLeastMember}
 use Rattle.dfa_core.specs.Traces.{IsTrace}
@@ -34,5 +34,5 @@ module _ (n s : ℕ) (before rest full : List Constraint) (a : Automaton) (is : 
   sought size long c (Found t) h = (least-same a.symbols n (AcceptsBreaks a rest c) (Breaks full c) t e.over (breaks-same c) h.0, narrow-all n s before rest full a is e narrow h.1)
   sought size long c Missing h = (λ w tw b. h.0 w (rw e.over tw) ((breaks-same c w tw).1 b), narrow-all n s before rest full a is e narrow h.1)
   sought size long c (TooWide built) h =
-      let same : built ≡ length before + h.count = h.counted ∙ ap (λ (k : ℕ). k + h.count) long in
-      rw same (first-all n s before rest full a is e narrow h.count h.from)
+      let same : built ≡ length before + h.0 = h.1 ∙ ap (λ (k : ℕ). k + h.0) long in
+      rw same (first-all n s before rest full a is e narrow h.0 h.2)

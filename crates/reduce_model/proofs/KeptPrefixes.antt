@@ -1,5 +1,5 @@
 -- Prefixes that the first pass keeps for the second.
-use Rattle.std.proofs.Common.{◌≡◌, ◌⊎◌, ℕ, ◌+◌, ◌<◌, ◌≤◌, inl, inr, List, [], ◌∷◌, ◌++◌, Bool, length, map, take, drop, sym, ap, ◌∙◌, arith}
+use Rattle.std.proofs.Common.{◌≡◌, ◌⊎◌, ℕ, ◌+◌, ◌<◌, ◌≤◌, inl, inr, List, [], ◌∷◌, ◌++◌, Bool, length, map, take, drop, get_or, sym, ap, subst, ◌∙◌, arith}
 use Rattle.std.proofs.lemmas.List.{get_or_append_left, length_push, take-append-le, take-take, take_all}
 use Rattle.std.proofs.lemmas.List.Elements.{All-push, All-weaker}
 use Rattle.std.specs.List.{All, HoldsAt}
@@ -58,11 +58,20 @@ kept-end n s list marks at prefixes h = record {
 }
 
 -- the first of them has none
-pub first-length : (n s : ℕ) (list : List Constraint) (marks : List Bool) (prefixes : List Prefix) → AreKeptPrefixes n s list marks prefixes → HoldsAt (λ (prefix : Prefix). prefix.length ≡ 0) prefixes 0
-first-length n s list marks prefixes h = λ d.
+pub first-none : {n s : ℕ} {list : List Constraint} {marks : List Bool} {prefixes : List Prefix} → AreKeptPrefixes n s list marks prefixes → HoldsAt (λ (prefix : Prefix). (prefix.place ≡ 0) × (prefix.length ≡ 0)) prefixes 0
+first-none h = λ d.
     let at_start = h.first d in
     let counted = (h.are 0 d h.some).counted in
-    rw at_start at counted
+    (at_start, rw at_start at counted)
+
+-- the one at a place of them
+pub prefix-at : {n s : ℕ} {list : List Constraint} {marks : List Bool} {prefixes : List Prefix} (k : ℕ) {prefix : Prefix} → AreKeptPrefixes n s list marks prefixes → k < length prefixes → prefix ≡ get_or prefixes k prefix
+    → IsPrefixOf n s list marks prefix
+prefix-at {n = n} {s = s} {list = list} {marks = marks} k {prefix = prefix} h lt is = subst (λ (p : Prefix). IsPrefixOf n s list marks p) (sym is) (h.are k prefix lt)
+
+pub prefix-fits : (place most : ℕ) (prefixes : List Prefix) (k : ℕ) (prefix : Prefix) → prefix ≡ get_or prefixes k prefix → HoldsAt (λ (prefix : Prefix). (prefix.place ≤ place) × (prefix.length ≤ most)) prefixes k
+    → (prefix.place ≤ place) × (prefix.length ≤ most)
+prefix-fits place most prefixes k prefix is fits = subst (λ (p : Prefix). (p.place ≤ place) × (p.length ≤ most)) (sym is) (fits prefix)
 
 -- one that has no more than the first that stay, before which none is dropped
 pub start-of : (n s : ℕ) (list : List Constraint) (ds : List Decision) (prefix : Prefix) (size : ℕ) → IsPrefixOf n s list (map is_left ds) prefix → prefix.length ≤ size

@@ -1,5 +1,6 @@
 -- Marks of a list of candidates, told place by place, are determined.
 use Rattle.std.proofs.Common.{◌≡◌, ◌↔◌, ◌⊎◌, ℕ, zero, suc, ◌+◌, ◌<◌, ◌≤◌, inl, inr, List, ◌∷◌, Bool, true, false, IsTrue, length, map, take, drop, get_or, refl, sym, ap, ◌∙◌, arith, add-one, drop-cons}
+use Rattle.std.proofs.lemmas.Bool.{cases_lt}
 use Rattle.std.proofs.lemmas.List.{drop_all, get_or-map, take_more_same}
 use Rattle.std.proofs.lemmas.Option.{get_or_from_slice_get, slice_get-get_or, slice_get_within}
 use Rattle.template_core.specs.declared.constraint.Constraint.{Constraint}
@@ -27,6 +28,14 @@ both_ways f g = (λ p. g.1 (f.0 p), λ r. f.1 (g.0 r))
 abbrev pub IsForward : (List Constraint → Constraint → Type 0) → (ℕ → Type 0) → List Constraint → List Bool → ℕ → Type 0
 IsForward F Q list marks bound =
     (place : ℕ) → place < bound → Q place → get_or marks place false ≡ false ↔ F (marked (take place marks) (take place list)) (get_or list place anything)
+
+-- one place more
+pub forward-more : (F : List Constraint → Constraint → Type 0) (Q : ℕ → Type 0) (list : List Constraint) (marks : List Bool) (at : ℕ) → IsForward F Q list marks at
+    → (Q at → get_or marks at false ≡ false ↔ F (marked (take at marks) (take at list)) (get_or list at anything)) → IsForward F Q list marks (at + 1)
+forward-more F Q list marks at h here = λ place lt q. elim (cases_lt place at) [
+  | inl before ↦ h place before q
+  | inr le ↦ let e : place ≡ at = omega arith in rw e (here (rw e at q))
+]
 
 -- and so at the places from a bound on, with the marked ones after it
 abbrev pub IsBackward : (ℕ → List Constraint → Constraint → Type 0) → (ℕ → Type 0) → List Constraint → List Bool → ℕ → Type 0

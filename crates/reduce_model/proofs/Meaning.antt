@@ -59,39 +59,27 @@ mark test ds place lt = get_or-map test ds place Kept false lt
 
 kept-or-second : (d : Decision) → is_left d ≡ true → (is_kept d ≡ true) ⊎ (d ≡ SecondPass)
 kept-or-second Kept e = inl refl
-kept-or-second Conflict e = cc
-kept-or-second (Weaker by) e = cc
-kept-or-second FirstPass e = cc
 kept-or-second SecondPass e = inr refl
-kept-or-second Beyond e = cc
 kept-or-second Untested e = inl refl
+kept-or-second d e = cc
 
 left-or-first : (d : Decision) → is_strongest d ≡ true → (is_left d ≡ true) ⊎ (d ≡ FirstPass)
-left-or-first Kept e = inl refl
 left-or-first Conflict e = cc
 left-or-first (Weaker by) e = cc
 left-or-first FirstPass e = inr refl
-left-or-first SecondPass e = inl refl
 left-or-first Beyond e = cc
-left-or-first Untested e = inl refl
+left-or-first d e = inl refl
 
 strongest-or-weaker : (d : Decision) → is_consistent d ≡ true → (is_strongest d ≡ true) ⊎ ((by : ℕ) × (d ≡ Weaker by))
-strongest-or-weaker Kept e = inl refl
 strongest-or-weaker Conflict e = cc
 strongest-or-weaker (Weaker by) e = inr (by, refl)
-strongest-or-weaker FirstPass e = inl refl
-strongest-or-weaker SecondPass e = inl refl
 strongest-or-weaker Beyond e = cc
-strongest-or-weaker Untested e = inl refl
+strongest-or-weaker d e = inl refl
 
 kept-consistent : (d : Decision) → is_kept d ≡ true → is_consistent d ≡ true
 kept-consistent Kept e = refl
-kept-consistent Conflict e = cc
-kept-consistent (Weaker by) e = cc
-kept-consistent FirstPass e = cc
-kept-consistent SecondPass e = cc
-kept-consistent Beyond e = cc
 kept-consistent Untested e = refl
+kept-consistent d e = cc
 
 stronger-trans : {c d e : Constraint} → IsStronger c d → IsStronger d e → IsStronger c e
 stronger-trans (directly l) q = through l q
@@ -225,12 +213,8 @@ keeps-fewer v u list w h all = keeps-each v list w (λ place lt has. keeps-at u 
 
 kept-left_mark : (d : Decision) → is_kept d ≡ true → is_left d ≡ true
 kept-left_mark Kept e = refl
-kept-left_mark Conflict e = cc
-kept-left_mark (Weaker by) e = cc
-kept-left_mark FirstPass e = cc
-kept-left_mark SecondPass e = cc
-kept-left_mark Beyond e = cc
 kept-left_mark Untested e = refl
+kept-left_mark d e = cc
 
 kept-left_marks : (ds : List Decision) (place : ℕ) → get_or (map is_kept ds) place false ≡ true → get_or (map is_left ds) place false ≡ true
 kept-left_marks [] place e = cc

@@ -1,5 +1,5 @@
 -- What the decisions of the reduction within a limit say of traces.
-use Rattle.std.proofs.Common.{◌≡◌, ◌↔◌, ◌⊎◌, ℕ, zero, suc, ◌+◌, ◌<◌, ◌≤◌, inl, inr, List, [], ◌∷◌, ◌++◌, Bool, true, false, Some, length, map, take, drop, get_or, refl, sym, ap, subst, ◌∙◌, arith, append_assoc}
+use Rattle.std.proofs.Common.{◌≡◌, ◌↔◌, ◌⊎◌, ℕ, zero, suc, ◌<◌, inl, inr, List, [], ◌∷◌, ◌++◌, Bool, true, false, Some, length, map, get_or, refl, sym, ap, subst, ◌∙◌, arith, append_assoc}
 use Rattle.std.specs.List.{All, slice_get}
 use Rattle.std.proofs.lemmas.List.{append-nil}
 use Rattle.std.proofs.lemmas.Option.{get_or_from_slice_get, slice_get_within}
@@ -10,7 +10,6 @@ use Rattle.template_core.specs.declared.constraint.Constraint.{Constraint}
 use Rattle.reduce_model.proofs.Marks.{true_or_false}
 use Rattle.list_dfa.proofs.Keeping.{anything, keeps-append, push-keeps}
 use Rattle.reduce_model.proofs.Meaning.{consistent-model, keeps-at, mark, strongest-consistent}
-use Rattle.reduce_model.proofs.Writes.{map-map_same}
 use Rattle.reduce_model.specs.Deciding.{IsAt, after, as_sifted, before, is_consistent, is_kept, is_left, is_strongest, marked, those}
 use Rattle.reduce_model.specs.Keeping.{IsKeepable, KeepsAll}
 use Rattle.reduce_model.specs.Reduction.{Breaks, Implies, Reduction}
@@ -108,16 +107,8 @@ witness-within n kept (x ∷ list) (Kept ∷ ds) (w ∷ ws) h zero c at =
 witness-within n kept (x ∷ list) (Kept ∷ ds) (w ∷ ws) h (suc place) c at = witness-moved n kept x list ds ws place c (witness-within n (kept ++ x ∷ []) list ds ws h.1 place c (record { constraint = at.constraint; decision = at.decision }))
 witness-within n kept (x ∷ list) (Untested ∷ ds) ws h zero c at = let no_ = at.decision in cc
 witness-within n kept (x ∷ list) (Untested ∷ ds) ws h (suc place) c at = witness-moved n kept x list ds ws place c (witness-within n (kept ++ x ∷ []) list ds ws h place c (record { constraint = at.constraint; decision = at.decision }))
-witness-within n kept (x ∷ list) (Conflict ∷ ds) ws h zero c at = let no_ = at.decision in cc
-witness-within n kept (x ∷ list) (Conflict ∷ ds) ws h (suc place) c at = witness-within n kept list ds ws h place c (record { constraint = at.constraint; decision = at.decision })
-witness-within n kept (x ∷ list) (Weaker by ∷ ds) ws h zero c at = let no_ = at.decision in cc
-witness-within n kept (x ∷ list) (Weaker by ∷ ds) ws h (suc place) c at = witness-within n kept list ds ws h place c (record { constraint = at.constraint; decision = at.decision })
-witness-within n kept (x ∷ list) (FirstPass ∷ ds) ws h zero c at = let no_ = at.decision in cc
-witness-within n kept (x ∷ list) (FirstPass ∷ ds) ws h (suc place) c at = witness-within n kept list ds ws h place c (record { constraint = at.constraint; decision = at.decision })
-witness-within n kept (x ∷ list) (SecondPass ∷ ds) ws h zero c at = let no_ = at.decision in cc
-witness-within n kept (x ∷ list) (SecondPass ∷ ds) ws h (suc place) c at = witness-within n kept list ds ws h place c (record { constraint = at.constraint; decision = at.decision })
-witness-within n kept (x ∷ list) (Beyond ∷ ds) ws h zero c at = let no_ = at.decision in cc
-witness-within n kept (x ∷ list) (Beyond ∷ ds) ws h (suc place) c at = witness-within n kept list ds ws h place c (record { constraint = at.constraint; decision = at.decision })
+witness-within n kept (x ∷ list) (d ∷ ds) ws h zero c at = let no_ = at.decision in cc
+witness-within n kept (x ∷ list) (d ∷ ds) ws h (suc place) c at = witness-within n kept list ds ws h place c (record { constraint = at.constraint; decision = at.decision })
 
 pub witnesses-break-within : (n s : ℕ) (list : List Constraint) (reduction : Reduction) → IsReductionWithin n s list reduction → (place : ℕ) (c : Constraint) → IsAt list reduction.decisions place c Kept
     → (w : List ℕ) × (slice_get reduction.witnesses (length (before has_witness place list reduction.decisions)) ≡ Some w) × IsTrace n w

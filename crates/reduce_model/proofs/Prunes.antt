@@ -11,7 +11,7 @@ use Rattle.reduce_model.specs.Passes.{IsPruned, before_first_pass}
 use Rattle.template_set.specs.Hierarchy.{IsStronger}
 use Rattle.reduce_model.specs.Reduction.{IsAbove, IsFirstAbove}
 use Rattle.reduce_model.specs.declared.decision.Decision.{Decision}
-use Rattle.reduce_model.specs.declared.decision.Decision.TheVariants.{Kept, Conflict, Weaker, FirstPass, SecondPass, Beyond, Untested}
+use Rattle.reduce_model.specs.declared.decision.Decision.TheVariants.{Kept, Conflict, Weaker, Beyond}
 
 -- the candidates before a place are pruned, the others not yet
 pub record IsPruning (list : List Constraint) (old new : List Decision) (at : ℕ) : Type 0 where
@@ -23,12 +23,7 @@ pub record IsPruning (list : List Constraint) (old new : List Decision) (at : �
 
 passes-pruning : (d : Decision) → before_first_pass (as_sifted d) ≡ as_sifted d
 passes-pruning Kept = refl
-passes-pruning Conflict = refl
-passes-pruning (Weaker by) = refl
-passes-pruning FirstPass = refl
-passes-pruning SecondPass = refl
-passes-pruning Beyond = refl
-passes-pruning Untested = refl
+passes-pruning d = refl
 
 pub pruning-none : (list : List Constraint) (old : List Decision) → length old ≡ length list → map as_sifted old ≡ old → IsPruning list old old 0
 pruning-none list old many sifted = record {
@@ -42,11 +37,8 @@ pruning-none list old many sifted = record {
 consistent-kept : (d : Decision) → d ≡ as_sifted d → is_consistent d ≡ true → d ≡ Kept
 consistent-kept Kept e c = refl
 consistent-kept Conflict e c = cc
-consistent-kept (Weaker by) e c = e
-consistent-kept FirstPass e c = e
-consistent-kept SecondPass e c = e
 consistent-kept Beyond e c = cc
-consistent-kept Untested e c = e
+consistent-kept d e c = e
 
 -- a conflict is left alone
 pub pruning-conflict : (list : List Constraint) (old new : List Decision) (at : ℕ) → IsPruning list old new at → is_consistent (get_or new at Kept) ≡ false → IsPruning list old new (at + 1)

@@ -246,57 +246,27 @@ refused-1 n s list refusal some h = absurd h
 
 pub consistent-pruning : (d : Decision) → is_consistent (as_sifted d) ≡ is_consistent d
 consistent-pruning Kept = refl
-consistent-pruning Conflict = refl
-consistent-pruning (Weaker by) = refl
-consistent-pruning FirstPass = refl
-consistent-pruning SecondPass = refl
-consistent-pruning Beyond = refl
-consistent-pruning Untested = refl
+consistent-pruning d = refl
 
 consistent-first : (d : Decision) → is_consistent (before_first_pass d) ≡ is_consistent d
 consistent-first Kept = refl
-consistent-first Conflict = refl
-consistent-first (Weaker by) = refl
-consistent-first FirstPass = refl
-consistent-first SecondPass = refl
-consistent-first Beyond = refl
-consistent-first Untested = refl
+consistent-first d = refl
 
 strongest-first : (d : Decision) → is_strongest (before_first_pass d) ≡ is_strongest d
 strongest-first Kept = refl
-strongest-first Conflict = refl
-strongest-first (Weaker by) = refl
-strongest-first FirstPass = refl
-strongest-first SecondPass = refl
-strongest-first Beyond = refl
-strongest-first Untested = refl
+strongest-first d = refl
 
 strongest-second : (d : Decision) → is_strongest (before_second_pass d) ≡ is_strongest d
 strongest-second Kept = refl
-strongest-second Conflict = refl
-strongest-second (Weaker by) = refl
-strongest-second FirstPass = refl
-strongest-second SecondPass = refl
-strongest-second Beyond = refl
-strongest-second Untested = refl
+strongest-second d = refl
 
 pub left-second : (d : Decision) → is_left (before_second_pass d) ≡ is_left d
 left-second Kept = refl
-left-second Conflict = refl
-left-second (Weaker by) = refl
-left-second FirstPass = refl
-left-second SecondPass = refl
-left-second Beyond = refl
-left-second Untested = refl
+left-second d = refl
 
 pub first-second : (d : Decision) → before_first_pass (before_second_pass d) ≡ before_first_pass d
 first-second Kept = refl
-first-second Conflict = refl
-first-second (Weaker by) = refl
-first-second FirstPass = refl
-first-second SecondPass = refl
-first-second Beyond = refl
-first-second Untested = refl
+first-second d = refl
 
 weaker-first : (d : Decision) (by : ℕ) → d ≡ Weaker by ↔ before_first_pass d ≡ Weaker by
 weaker-first Kept by = (λ e. cc, λ e. cc)
@@ -355,9 +325,6 @@ none-first d e u = refl
 module _ (n s : ℕ) (list : List Constraint) (ds0 ds1 : List Decision) (hs : IsSifted n [] list ds0) (hn : IsNarrow n s list) (hp : IsPruned list ds0 ds1) where
   pub many-0 : length ds0 ≡ length list
   many-0 = sifted-many n [] list ds0 hs
-
-  pub fixed-0 : map as_sifted ds0 ≡ ds0
-  fixed-0 = sifted-fixed n [] list ds0 hs
 
   pub many-1 : length ds1 ≡ length list
   many-1 = sym (length-map ds1 as_sifted) ∙ (ap length hp.same ∙ many-0)

@@ -1,8 +1,7 @@
 -- The steps of the reduction within a limit put together.
-use Rattle.std.proofs.Common.{◌≡◌, ◌↔◌, ◌⊎◌, ℕ, suc, inl, inr, List, [], ◌∷◌, ◌++◌, length, map, refl, sym, ap, ◌∙◌}
+use Rattle.std.proofs.Common.{◌≡◌, ℕ, suc, inl, inr, List, [], ◌∷◌, ◌++◌, length, map, take, drop, refl, sym, ap, ◌∙◌, arith}
 use Rattle.std.specs.List.{All}
-use Rattle.std.proofs.lemmas.List.{length-map}
-use Rattle.dfa_core.specs.Languages.{IsLeastMember}
+use Rattle.std.proofs.lemmas.List.{length-map, take-append-le, take_all}
 use Rattle.template_core.specs.Constraints.{IsWellMadeFor}
 use Rattle.template_core.specs.declared.constraint.Constraint.{Constraint}
 use Rattle.reduce_model.proofs.MeaningWithin.{consistent-kept_of, same-traces-within}
@@ -13,9 +12,9 @@ use Rattle.reduce_model.specs.Deciding.{as_sifted, is_consistent, is_kept, those
 use Rattle.reduce_model.specs.Keeping.{KeepsAll}
 use Rattle.reduce_model.specs.Passes.{IsDroppedWithin, IsFirstPassedOf, IsPruned, IsSecondPassedTo, IsWitnessedWithin, before_first_pass, before_second_pass}
 use Rattle.reduce_model.specs.Sifting.{kept_of}
-use Rattle.reduce_model.specs.Within.{IsFirstPassedWithin, IsReducedWithin, IsSiftedWithin, IsWideList}
+use Rattle.reduce_model.specs.Within.{IsFirstPassedWithin, IsReducedWithin, IsSiftedWithin}
 use Rattle.reduce_model.specs.declared.decision.Decision.{Decision}
-use Rattle.reduce_model.specs.declared.decision.Decision.TheVariants.{Kept, Conflict, Weaker, FirstPass, SecondPass, Beyond, Untested}
+use Rattle.reduce_model.specs.declared.decision.Decision.TheVariants.{Kept, Conflict, Weaker, FirstPass, Beyond}
 use Rattle.reduce_model.specs.declared.first_within.FirstPassed.{FirstPassed}
 use Rattle.reduce_model.specs.declared.witnesses_within.Witnessed.{Witnessed}
 
@@ -37,14 +36,13 @@ within-fixed n s kept (c ∷ list) (Conflict ∷ ds) h = ap (λ (l : List Decisi
 within-fixed n s kept (c ∷ list) (Beyond ∷ ds) h = ap (λ (l : List Decision). Beyond ∷ l) (within-fixed n s kept list ds h.2)
 within-fixed n s kept (c ∷ list) (d ∷ ds) h = absurd h
 
+-- decisions that are written back where as many stood
+pub written-back : (size : ℕ) (new old : List Decision) → size ≡ length new → take size (new ++ drop (length new) old) ≡ new
+written-back size new old e = take-append-le size new (drop (length new) old) (omega (arith, e)) ∙ take_all size new (omega (arith, e))
+
 sifted-first : (d : Decision) → as_sifted (before_first_pass d) ≡ as_sifted d
 sifted-first Kept = refl
-sifted-first Conflict = refl
-sifted-first (Weaker by) = refl
-sifted-first FirstPass = refl
-sifted-first SecondPass = refl
-sifted-first Beyond = refl
-sifted-first Untested = refl
+sifted-first d = refl
 
 -- the first pass says nothing of the marks of the second
 first-view : (n s : ℕ) (joined list : List Constraint) (ds : List Decision) → IsFirstPassedWithin n s joined list (map before_second_pass ds) → IsFirstPassedWithin n s joined list ds

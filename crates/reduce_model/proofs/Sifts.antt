@@ -1,8 +1,8 @@
 -- A sift that goes on by one candidate.
-use Rattle.std.proofs.Common.{◌≡◌, ◌↔◌, ℕ, zero, suc, ◌+◌, ◌<◌, ◌≤◌, inl, inr, List, [], ◌∷◌, ◌++◌, length, take, refl, sym, ap, ◌∙◌, arith, append_assoc}
+use Rattle.std.proofs.Common.{◌≡◌, ◌↔◌, ℕ, zero, suc, ◌+◌, ◌<◌, ◌≤◌, inl, inr, List, [], ◌∷◌, ◌++◌, length, take, refl, sym, ap, subst, ◌∙◌, arith, append_assoc}
 use Rattle.std.proofs.lemmas.Bool.{cases_lt}
 use Rattle.std.proofs.lemmas.List.{append-nil, length_push}
-use Rattle.dfa_core.specs.Automaton.{Automaton, Accepts, IsEverything, state_count}
+use Rattle.dfa_core.specs.Automaton.{Automaton, Accepts, state_count}
 use Rattle.dfa_core.specs.Languages.{HasNoMember, IsLeastMember}
 use Rattle.dfa_core.specs.Shortlex.{IsBefore}
 use Rattle.dfa_core.specs.Traces.{IsTrace}
@@ -10,50 +10,34 @@ use Rattle.dfa_minimise.specs.Wide.{IsWide}
 use Rattle.template_core.specs.declared.constraint.Constraint.{Constraint}
 use Rattle.reduce_model.proofs.Members.{keeps-stable, least-same}
 use Rattle.dfa_minimise.proofs.Widths.{over-wide, wide-over}
-use Rattle.reduce_model.specs.Joining.{IsTooWide, JoinsKept}
-use Rattle.list_dfa.specs.Extending.{AcceptsBroken, AcceptsKept}
+use Rattle.reduce_model.specs.Joining.{IsEmptyKept, IsTakenIn, IsTooWide, JoinsImplied, JoinsKept}
+use Rattle.list_dfa.specs.Extending.{AcceptsKept}
 use Rattle.reduce_model.specs.Keeping.{KeepsAll, IsKeepable}
 use Rattle.reduce_model.specs.Sifting.{IsFirstWide, IsKeptAfter, IsSift, IsSifted, Sifting, kept_of}
 use Rattle.reduce_model.specs.declared.decision.Decision.{Decision}
-use Rattle.reduce_model.specs.declared.decision.Decision.TheVariants.{Kept, Conflict}
+use Rattle.reduce_model.specs.declared.decision.Decision.TheVariants.{Kept, Conflict, Beyond}
 use Rattle.reduce_model.specs.declared.kept.KeptList.{KeptList}
 use Rattle.list_dfa.proofs.Keeping.{push-keeps, keeps-push}
 use Rattle.list_dfa.proofs.Listing.{empty-narrow}
 
 -- ---- a list with one more constraint
 
-kept_of-push : (n : ℕ) (kept xs : List Constraint) (ds : List Decision) (c : Constraint) → IsSifted n kept xs ds → kept_of (xs ++ c ∷ []) (ds ++ Kept ∷ []) ≡ kept_of xs ds ++ c ∷ []
-kept_of-push n kept [] [] c h = refl
-kept_of-push n kept [] (d ∷ ds) c h = absurd h
-kept_of-push n kept (x ∷ xs) [] c h = absurd h
-kept_of-push n kept (x ∷ xs) (Kept ∷ ds) c h = ap (λ (l : List Constraint). x ∷ l) (kept_of-push n (kept ++ x ∷ []) xs ds c h.1)
-kept_of-push n kept (x ∷ xs) (Conflict ∷ ds) c h = kept_of-push n kept xs ds c h.1
-kept_of-push n kept (x ∷ xs) (d ∷ ds) c h = absurd h
+kept_of-append : (n : ℕ) (kept xs ys : List Constraint) (ds es : List Decision) → IsSifted n kept xs ds → kept_of (xs ++ ys) (ds ++ es) ≡ kept_of xs ds ++ kept_of ys es
+kept_of-append n kept [] ys [] es h = refl
+kept_of-append n kept [] ys (d ∷ ds) es h = absurd h
+kept_of-append n kept (x ∷ xs) ys [] es h = absurd h
+kept_of-append n kept (x ∷ xs) ys (Kept ∷ ds) es h = ap (λ (l : List Constraint). x ∷ l) (kept_of-append n (kept ++ x ∷ []) xs ys ds es h.1)
+kept_of-append n kept (x ∷ xs) ys (Conflict ∷ ds) es h = kept_of-append n kept xs ys ds es h.1
+kept_of-append n kept (x ∷ xs) ys (d ∷ ds) es h = absurd h
 
-kept_of-conflict : (n : ℕ) (kept xs : List Constraint) (ds : List Decision) (c : Constraint) → IsSifted n kept xs ds → kept_of (xs ++ c ∷ []) (ds ++ Conflict ∷ []) ≡ kept_of xs ds
-kept_of-conflict n kept [] [] c h = refl
-kept_of-conflict n kept [] (d ∷ ds) c h = absurd h
-kept_of-conflict n kept (x ∷ xs) [] c h = absurd h
-kept_of-conflict n kept (x ∷ xs) (Kept ∷ ds) c h = ap (λ (l : List Constraint). x ∷ l) (kept_of-conflict n (kept ++ x ∷ []) xs ds c h.1)
-kept_of-conflict n kept (x ∷ xs) (Conflict ∷ ds) c h = kept_of-conflict n kept xs ds c h.1
-kept_of-conflict n kept (x ∷ xs) (d ∷ ds) c h = absurd h
-
-sifted-push : (n : ℕ) (kept xs : List Constraint) (ds : List Decision) (c : Constraint) → IsSifted n kept xs ds → IsKeepable n ((kept ++ kept_of xs ds) ++ c ∷ []) → IsSifted n kept (xs ++ c ∷ []) (ds ++ Kept ∷ [])
-sifted-push n kept [] [] c h joins = let more : IsKeepable n (kept ++ c ∷ []) = rw (append-nil kept) at joins in (more, tt)
-sifted-push n kept [] (d ∷ ds) c h joins = absurd h
-sifted-push n kept (x ∷ xs) [] c h joins = absurd h
-sifted-push n kept (x ∷ xs) (Kept ∷ ds) c h joins = (h.0, sifted-push n (kept ++ x ∷ []) xs ds c h.1 (rw (append_assoc kept (x ∷ []) (kept_of xs ds)) joins))
-sifted-push n kept (x ∷ xs) (Conflict ∷ ds) c h joins = (h.0, sifted-push n kept xs ds c h.1 joins)
-sifted-push n kept (x ∷ xs) (d ∷ ds) c h joins = absurd h
-
-sifted-conflict : (n : ℕ) (kept xs : List Constraint) (ds : List Decision) (c : Constraint) → IsSifted n kept xs ds → HasNoMember n (KeepsAll ((kept ++ kept_of xs ds) ++ c ∷ []))
-    → IsSifted n kept (xs ++ c ∷ []) (ds ++ Conflict ∷ [])
-sifted-conflict n kept [] [] c h none = let no : HasNoMember n (KeepsAll (kept ++ c ∷ [])) = rw (append-nil kept) at none in (no, tt)
-sifted-conflict n kept [] (d ∷ ds) c h none = absurd h
-sifted-conflict n kept (x ∷ xs) [] c h none = absurd h
-sifted-conflict n kept (x ∷ xs) (Kept ∷ ds) c h none = (h.0, sifted-conflict n (kept ++ x ∷ []) xs ds c h.1 (rw (append_assoc kept (x ∷ []) (kept_of xs ds)) none))
-sifted-conflict n kept (x ∷ xs) (Conflict ∷ ds) c h none = (h.0, sifted-conflict n kept xs ds c h.1 none)
-sifted-conflict n kept (x ∷ xs) (d ∷ ds) c h none = absurd h
+sifted-append : (n : ℕ) (kept xs ys : List Constraint) (ds es : List Decision) → IsSifted n kept xs ds → IsSifted n (kept ++ kept_of xs ds) ys es → IsSifted n kept (xs ++ ys) (ds ++ es)
+sifted-append n kept [] ys [] es h g = subst (λ (l : List Constraint). IsSifted n l ys es) (append-nil kept) g
+sifted-append n kept [] ys (d ∷ ds) es h g = absurd h
+sifted-append n kept (x ∷ xs) ys [] es h g = absurd h
+sifted-append n kept (x ∷ xs) ys (Kept ∷ ds) es h g =
+    (h.0, sifted-append n (kept ++ x ∷ []) xs ys ds es h.1 (subst (λ (l : List Constraint). IsSifted n l ys es) (sym (append_assoc kept (x ∷ []) (kept_of xs ds))) g))
+sifted-append n kept (x ∷ xs) ys (Conflict ∷ ds) es h g = (h.0, sifted-append n kept xs ys ds es h.1 g)
+sifted-append n kept (x ∷ xs) ys (d ∷ ds) es h g = absurd h
 
 -- a sift has one list of marks
 pub sifted_unique : (n : ℕ) (kept xs : List Constraint) (ds es : List Decision) → IsSifted n kept xs ds → IsSifted n kept xs es → ds ≡ es
@@ -111,24 +95,23 @@ no_before_nil w (inl lt) = omega (arith, lt)
 no_before_nil [] (inr p) = p.1
 no_before_nil (x ∷ w) (inr p) = p.1
 
-pub carried-none : (n s : ℕ) (carried : KeptList) → 1 ≤ s → IsEverything n carried.dfa → carried.length ≡ 0 → carried.example ≡ [] → IsCarried n s [] carried
-carried-none n s carried some every none empty = record {
-  over = every.over;
-  same = λ w tw. (λ is. tt, λ all. every.accepts_all w tw);
-  few = omega (arith, every.one_state);
-  carried_length = none;
-  example = rw empty (record {
+pub carried-none : (n s : ℕ) (carried : KeptList) → 1 ≤ s → IsEmptyKept n carried → IsCarried n s [] carried
+carried-none n s carried some begins = record {
+  over = begins.every.over;
+  same = λ w tw. (λ is. tt, λ all. begins.every.accepts_all w tw);
+  few = let one = begins.every.one_state in omega (arith, one, some);
+  carried_length = begins.none;
+  example = rw begins.empty (record {
     over = tt;
     member = tt;
     none_before = λ w tw is before. no_before_nil w before;
   });
 }
 
-pub so_far-none : (n s : ℕ) (list : List Constraint) (carried : KeptList) (decisions : List Decision) → 1 ≤ s → IsEverything n carried.dfa → carried.length ≡ 0 → carried.example ≡ [] → decisions ≡ []
-    → IsSiftedSoFar n s list 0 carried decisions
-so_far-none n s list carried decisions some every none empty unmarked = rw unmarked (record {
+pub so_far-none : (n s : ℕ) (list : List Constraint) (carried : KeptList) (decisions : List Decision) → 1 ≤ s → IsEmptyKept n carried → decisions ≡ [] → IsSiftedSoFar n s list 0 carried decisions
+so_far-none n s list carried decisions some begins unmarked = rw unmarked (record {
   sifted = tt;
-  carried_of = carried-none n s carried some every none empty;
+  carried_of = carried-none n s carried some begins;
   narrow = λ count kept le after wide.
       let z : count ≡ 0 = omega arith in
       let sifted : IsSifted n [] [] after.decisions = rw z at after.sifted in
@@ -143,19 +126,19 @@ after-known n list count at kept ds e after sifted =
     let is : kept_of (take at list) after.decisions ≡ kept = rw e at after.is in
     ap (kept_of (take at list)) (sifted_unique n [] (take at list) ds after.decisions sifted theirs) ∙ is
 
-pub so_far-kept : (n s : ℕ) (list : List Constraint) (at : ℕ) (old new : KeptList) (ds : List Decision) (c : Constraint) → take (at + 1) list ≡ take at list ++ c ∷ []
+so_far-kept : (n s : ℕ) (list : List Constraint) (at : ℕ) (old new : KeptList) (ds : List Decision) (c : Constraint) → take (at + 1) list ≡ take at list ++ c ∷ []
     → IsSiftedSoFar n s list at old ds → JoinsKept s old c new → IsSiftedSoFar n s list (at + 1) new (ds ++ Kept ∷ [])
 so_far-kept n s list at old new ds c more h joins =
     let front = take at list in
     let kept = kept_of front ds in
     let carried = carried-more n s kept old new c h.carried_of joins in
-    let grown : kept_of (front ++ c ∷ []) (ds ++ Kept ∷ []) ≡ kept ++ c ∷ [] = kept_of-push n [] front ds c h.sifted in
+    let grown : kept_of (front ++ c ∷ []) (ds ++ Kept ∷ []) ≡ kept ++ c ∷ [] = kept_of-append n [] front (c ∷ []) ds (Kept ∷ []) h.sifted in
     let keepable : IsKeepable n (kept ++ c ∷ []) = record {
       by = new.example;
       over = carried.example.over;
       keeps = carried.example.member;
     } in
-    let sifted : IsSifted n [] (take (at + 1) list) (ds ++ Kept ∷ []) = rw more (sifted-push n [] front ds c h.sifted keepable) in
+    let sifted : IsSifted n [] (take (at + 1) list) (ds ++ Kept ∷ []) = rw more (sifted-append n [] front (c ∷ []) ds (Kept ∷ []) h.sifted (keepable, tt)) in
     let known : kept_of (take (at + 1) list) (ds ++ Kept ∷ []) ≡ kept ++ c ∷ [] = rw more grown in
     record {
       sifted = sifted;
@@ -170,10 +153,10 @@ so_far-kept n s list at old new ds c more h joins =
     }
 
 -- a candidate that the kept list implies joins it, and what is carried stays as it is
-pub implied-joins : (n s : ℕ) (kept : List Constraint) (old new : KeptList) (c : Constraint) → IsCarried n s kept old → (IsWide n (KeepsAll kept) s → ⊥) → HasNoMember old.dfa.symbols (AcceptsBroken old.dfa c) → new.dfa ≡ old.dfa
-    → new.example ≡ old.example → new.length ≡ old.length + 1 → JoinsKept s old c new
-implied-joins n s kept old new c carried narrow none same_dfa same_example long =
-    let every : (w : List ℕ) → IsTrace old.dfa.symbols w → Accepts old.dfa w ↔ AcceptsKept old.dfa c w = λ w tw. (λ is. (is, keeps-stable c w (λ breaks. none w tw (is, breaks))), λ both. both.0) in
+pub implied-joins : (n s : ℕ) (kept : List Constraint) (old new : KeptList) (c : Constraint) → IsCarried n s kept old → (IsWide n (KeepsAll kept) s → ⊥) → JoinsImplied old c new → JoinsKept s old c new
+implied-joins n s kept old new c carried narrow joins =
+    let same_dfa = joins.same_dfa in
+    let every : (w : List ℕ) → IsTrace old.dfa.symbols w → Accepts old.dfa w ↔ AcceptsKept old.dfa c w = λ w tw. (λ is. (is, keeps-stable c w (λ breaks. joins.implied w tw (is, breaks))), λ both. both.0) in
     let least : IsLeastMember old.dfa.symbols (Accepts old.dfa) old.example =
     least-same n old.dfa.symbols (KeepsAll kept) (Accepts old.dfa) old.example (sym carried.over) (λ w tw. let p = carried.same w (rw carried.over at tw) in (p.1, p.0)) carried.example in
     record {
@@ -186,31 +169,18 @@ implied-joins n s kept old new c carried narrow none same_dfa same_example long 
             let q = every w (rw carried.over tw) in (λ both. p.0 (q.1 both), λ all. q.0 (p.1 all))) wide);
         few = rw same_dfa carried.few;
       };
-      example = rw same_example (least-same old.dfa.symbols old.dfa.symbols (Accepts old.dfa) (AcceptsKept old.dfa c) old.example refl every least);
-      new_length = long;
+      example = rw joins.same_example (least-same old.dfa.symbols old.dfa.symbols (Accepts old.dfa) (AcceptsKept old.dfa c) old.example refl every least);
+      new_length = joins.new_length;
     }
 
-pub so_far-implied : (n s : ℕ) (list : List Constraint) (at : ℕ) (old new : KeptList) (ds : List Decision) (c : Constraint) → take (at + 1) list ≡ take at list ++ c ∷ [] → at < length list
-    → IsSiftedSoFar n s list at old ds → HasNoMember old.dfa.symbols (AcceptsBroken old.dfa c) → new.dfa ≡ old.dfa → new.example ≡ old.example → new.length ≡ old.length + 1
-    → IsSiftedSoFar n s list (at + 1) new (ds ++ Kept ∷ [])
-so_far-implied n s list at old new ds c more lt h none same_dfa same_example long =
-    let kept = kept_of (take at list) ds in
-    let narrow : IsWide n (KeepsAll kept) s → ⊥ = λ wide. h.narrow at kept (omega arith) (record {
-      within = omega arith;
-      decisions = ds;
-      sifted = h.sifted;
-      is = refl;
-    }) wide in
-    so_far-kept n s list at old new ds c more h (implied-joins n s kept old new c h.carried_of narrow none same_dfa same_example long)
-
-pub so_far-conflict : (n s : ℕ) (list : List Constraint) (at : ℕ) (old : KeptList) (ds : List Decision) (c : Constraint) → take (at + 1) list ≡ take at list ++ c ∷ []
+so_far-conflict : (n s : ℕ) (list : List Constraint) (at : ℕ) (old : KeptList) (ds : List Decision) (c : Constraint) → take (at + 1) list ≡ take at list ++ c ∷ []
     → at < length list → IsSiftedSoFar n s list at old ds → HasNoMember old.dfa.symbols (AcceptsKept old.dfa c) → IsSiftedSoFar n s list (at + 1) old (ds ++ Conflict ∷ [])
 so_far-conflict n s list at old ds c more lt h none =
     let front = take at list in
     let kept = kept_of front ds in
     let no : HasNoMember n (KeepsAll (kept ++ c ∷ [])) = λ w tw all. none w (rw h.carried_of.over tw) ((same-more n s kept old c h.carried_of w tw).1 all) in
-    let sifted : IsSifted n [] (take (at + 1) list) (ds ++ Conflict ∷ []) = rw more (sifted-conflict n [] front ds c h.sifted no) in
-    let known : kept_of (take (at + 1) list) (ds ++ Conflict ∷ []) ≡ kept = rw more (kept_of-conflict n [] front ds c h.sifted) in
+    let sifted : IsSifted n [] (take (at + 1) list) (ds ++ Conflict ∷ []) = rw more (sifted-append n [] front (c ∷ []) ds (Conflict ∷ []) h.sifted (no, tt)) in
+    let known : kept_of (take (at + 1) list) (ds ++ Conflict ∷ []) ≡ kept = rw more (kept_of-append n [] front (c ∷ []) ds (Conflict ∷ []) h.sifted ∙ append-nil kept) in
     record {
       sifted = sifted;
       carried_of = rw known h.carried_of;
@@ -227,6 +197,23 @@ so_far-conflict n s list at old ds c more lt h none =
         | inr old_ ↦ h.narrow count other old_ after wide
       ];
     }
+
+-- a candidate that isn't beyond
+pub so_far-more : (n s : ℕ) (list : List Constraint) (at : ℕ) (old new : KeptList) (ds : List Decision) (c : Constraint) (d : Decision) → take (at + 1) list ≡ take at list ++ c ∷ [] → at < length list
+    → IsSiftedSoFar n s list at old ds → IsTakenIn s old c new d → (d ≡ Beyond → ⊥) → IsSiftedSoFar n s list (at + 1) new (ds ++ d ∷ [])
+so_far-more n s list at old new ds c Kept more lt h (inl implied) not_ =
+    let kept = kept_of (take at list) ds in
+    let narrow : IsWide n (KeepsAll kept) s → ⊥ = λ wide. h.narrow at kept (omega arith) (record {
+      within = omega arith;
+      decisions = ds;
+      sifted = h.sifted;
+      is = refl;
+    }) wide in
+    so_far-kept n s list at old new ds c more h (implied-joins n s kept old new c h.carried_of narrow implied)
+so_far-more n s list at old new ds c Kept more lt h (inr joins) not_ = so_far-kept n s list at old new ds c more h joins
+so_far-more n s list at old new ds c Conflict more lt h taken not_ = rw taken.0 (so_far-conflict n s list at old ds c more lt h taken.1)
+so_far-more n s list at old new ds c Beyond more lt h taken not_ = absurd (not_ refl)
+so_far-more n s list at old new ds c d more lt h taken not_ = absurd taken
 
 pub so_far-refused : (n s : ℕ) (list : List Constraint) (at : ℕ) (old : KeptList) (ds : List Decision) (c : Constraint) → take (at + 1) list ≡ take at list ++ c ∷ []
     → at < length list → IsSiftedSoFar n s list at old ds → IsTooWide s old.dfa c → IsFirstWide n s list (old.length + 1)
@@ -245,8 +232,8 @@ so_far-refused n s list at old ds c more lt h too =
       after = record {
         within = omega arith;
         decisions = ds ++ Kept ∷ [];
-        sifted = rw more (sifted-push n [] front ds c h.sifted keepable);
-        is = rw more (kept_of-push n [] front ds c h.sifted);
+        sifted = rw more (sifted-append n [] front (c ∷ []) ds (Kept ∷ []) h.sifted (keepable, tt));
+        is = rw more (kept_of-append n [] front (c ∷ []) ds (Kept ∷ []) h.sifted);
       };
       wide = over-wide old.dfa.symbols n s (AcceptsKept old.dfa c) (KeepsAll (kept ++ c ∷ [])) h.carried_of.over (same-more n s kept old c h.carried_of) too.wide;
       built_length = length_push kept c ∙ ap (λ (k : ℕ). k + 1) (sym h.carried_of.carried_length);

@@ -1,17 +1,15 @@
 -- The sift within a limit that goes on by one candidate.
-use Rattle.std.proofs.Common.{◌≡◌, ◌↔◌, ℕ, suc, ◌+◌, ◌<◌, ◌≤◌, List, [], ◌∷◌, ◌++◌, length, take, drop, get_or, refl, sym, ap, ◌∙◌, subst, arith, add-one, append_assoc, drop-cons}
+use Rattle.std.proofs.Common.{◌≡◌, ℕ, inl, inr, ◌+◌, ◌<◌, ◌≤◌, List, [], ◌∷◌, ◌++◌, length, drop, get_or, refl, sym, ap, ◌∙◌, arith, add-one, append_assoc, drop-cons}
 use Rattle.std.proofs.lemmas.List.{append-nil, drop_all, length_push}
-use Rattle.dfa_core.specs.Automaton.{IsEverything}
-use Rattle.dfa_core.specs.Languages.{HasNoMember, IsLeastMember}
-use Rattle.dfa_core.specs.Traces.{IsTrace}
+use Rattle.dfa_core.specs.Languages.{HasNoMember}
 use Rattle.template_core.specs.declared.constraint.Constraint.{Constraint}
 use Rattle.list_dfa.proofs.Keeping.{anything}
 use Rattle.reduce_model.proofs.Members.{least-same}
 use Rattle.dfa_minimise.proofs.Widths.{over-wide, wide-over}
 use Rattle.reduce_model.proofs.Sifts.{IsCarried, carried-more, carried-none, implied-joins, same-more}
 use Rattle.list_dfa.proofs.Listing.{empty-narrow}
-use Rattle.reduce_model.specs.Joining.{IsTooWide, JoinsKept}
-use Rattle.list_dfa.specs.Extending.{AcceptsBroken, AcceptsKept}
+use Rattle.reduce_model.specs.Joining.{IsEmptyKept, IsTakenIn, JoinsKept}
+use Rattle.list_dfa.specs.Extending.{AcceptsKept}
 use Rattle.reduce_model.specs.Keeping.{KeepsAll, IsKeepable}
 use Rattle.reduce_model.specs.Sifting.{Sifting, kept_of}
 use Rattle.reduce_model.specs.Within.{IsSiftWithin, IsSiftedWithin, IsWideList}
@@ -28,10 +26,10 @@ pub record IsSiftingWithin (n s : ℕ) (list : List Constraint) (at : ℕ) (carr
   pub rest : (es : List Decision) → IsSiftedWithin n s kept (drop at list) es → IsSiftedWithin n s [] list (ds ++ es)
   pub rest_kept : (es : List Decision) → kept_of list (ds ++ es) ≡ kept ++ kept_of (drop at list) es
 
-pub sifting-none : (n s : ℕ) (list : List Constraint) (carried : KeptList) (ds : List Decision) → 1 ≤ s → IsEverything n carried.dfa → carried.length ≡ 0 → carried.example ≡ [] → ds ≡ [] → IsSiftingWithin n s list 0 carried ds
-sifting-none n s list carried ds some every none empty unmarked = rw unmarked (record {
+pub sifting-none : (n s : ℕ) (list : List Constraint) (carried : KeptList) (ds : List Decision) → 1 ≤ s → IsEmptyKept n carried → ds ≡ [] → IsSiftingWithin n s list 0 carried ds
+sifting-none n s list carried ds some begins unmarked = rw unmarked (record {
   kept = [];
-  carried_of = carried-none n s carried some every none empty;
+  carried_of = carried-none n s carried some begins;
   few = omega arith;
   narrow = empty-narrow n s some;
   rest = λ es h. h;
@@ -48,7 +46,7 @@ module _ (n s : ℕ) (list : List Constraint) (at : ℕ) (old : KeptList) (ds : 
   pushed : (d : Decision) (es : List Decision) → (ds ++ d ∷ []) ++ es ≡ ds ++ d ∷ es
   pushed d es = append_assoc ds (d ∷ []) es
 
-  pub within-kept : (new : KeptList) → JoinsKept s old c new → IsSiftingWithin n s list (at + 1) new (ds ++ Kept ∷ [])
+  within-kept : (new : KeptList) → JoinsKept s old c new → IsSiftingWithin n s list (at + 1) new (ds ++ Kept ∷ [])
   within-kept new joins =
       let carried = carried-more n s h.kept old new c h.carried_of joins in
       let keepable : IsKeepable n (h.kept ++ c ∷ []) = record {
@@ -67,38 +65,35 @@ module _ (n s : ℕ) (list : List Constraint) (at : ℕ) (old : KeptList) (ds : 
         rest_kept = λ es. rw (pushed Kept es) (h.rest_kept (Kept ∷ es) ∙ rw here (sym (append_assoc h.kept (c ∷ []) (kept_of (drop (at + 1) list) es))));
       }
 
-  pub within-conflict : HasNoMember old.dfa.symbols (AcceptsKept old.dfa c) → IsSiftingWithin n s list (at + 1) old (ds ++ Conflict ∷ [])
-  within-conflict none = record {
+  -- one that doesn't join
+  stays-out : (d : Decision) → ((es : List Decision) → IsSiftedWithin n s h.kept (drop (at + 1) list) es → IsSiftedWithin n s h.kept (c ∷ drop (at + 1) list) (d ∷ es))
+      → ((es : List Decision) → kept_of (c ∷ drop (at + 1) list) (d ∷ es) ≡ kept_of (drop (at + 1) list) es) → IsSiftingWithin n s list (at + 1) old (ds ++ d ∷ [])
+  stays-out d says says_kept = record {
     kept = h.kept;
     carried_of = h.carried_of;
     few = let few_ = h.few in omega (arith, few_);
     narrow = h.narrow;
-    rest = λ es more.
-        let no_ : HasNoMember n (KeepsAll (h.kept ++ c ∷ [])) = λ w tw all. none w (rw h.carried_of.over tw) ((same-more n s h.kept old c h.carried_of w tw).1 all) in
-        rw (pushed Conflict es) (h.rest (Conflict ∷ es) (rw here (no_, more)));
-    rest_kept = λ es. rw (pushed Conflict es) (h.rest_kept (Conflict ∷ es) ∙ rw here refl);
+    rest = λ es more. rw (pushed d es) (h.rest (d ∷ es) (rw here (says es more)));
+    rest_kept = λ es. rw (pushed d es) (h.rest_kept (d ∷ es) ∙ rw here (ap (λ (l : List Constraint). h.kept ++ l) (says_kept es)));
   }
 
-  pub within-beyond : IsTooWide s old.dfa c → IsSiftingWithin n s list (at + 1) old (ds ++ Beyond ∷ [])
-  within-beyond too = record {
-    kept = h.kept;
-    carried_of = h.carried_of;
-    few = let few_ = h.few in omega (arith, few_);
-    narrow = h.narrow;
-    rest = λ es more.
-        let least = least-same old.dfa.symbols n (AcceptsKept old.dfa c) (KeepsAll (h.kept ++ c ∷ [])) too.by h.carried_of.over (same-more n s h.kept old c h.carried_of) too.example in
-        let keepable : IsKeepable n (h.kept ++ c ∷ []) = record {
-          by = too.by;
-          over = least.over;
-          keeps = least.member;
-        } in
-        let wide : IsWideList n s (h.kept ++ c ∷ []) = over-wide old.dfa.symbols n s (AcceptsKept old.dfa c) (KeepsAll (h.kept ++ c ∷ [])) h.carried_of.over (same-more n s h.kept old c h.carried_of) too.wide in
-        rw (pushed Beyond es) (h.rest (Beyond ∷ es) (rw here (keepable, wide, more)));
-    rest_kept = λ es. rw (pushed Beyond es) (h.rest_kept (Beyond ∷ es) ∙ rw here refl);
-  }
-
-  pub within-implied : (new : KeptList) → HasNoMember old.dfa.symbols (AcceptsBroken old.dfa c) → new.dfa ≡ old.dfa → new.example ≡ old.example → new.length ≡ old.length + 1 → IsSiftingWithin n s list (at + 1) new (ds ++ Kept ∷ [])
-  within-implied new none same_dfa same_example long = within-kept new (implied-joins n s h.kept old new c h.carried_of h.narrow none same_dfa same_example long)
+  pub within-taken : (new : KeptList) (d : Decision) → IsTakenIn s old c new d → IsSiftingWithin n s list (at + 1) new (ds ++ d ∷ [])
+  within-taken new Kept (inl implied) = within-kept new (implied-joins n s h.kept old new c h.carried_of h.narrow implied)
+  within-taken new Kept (inr joins) = within-kept new joins
+  within-taken new Conflict taken =
+      let none : HasNoMember n (KeepsAll (h.kept ++ c ∷ [])) = λ w tw all. taken.1 w (rw h.carried_of.over tw) ((same-more n s h.kept old c h.carried_of w tw).1 all) in
+      rw taken.0 (stays-out Conflict (λ es more. (none, more)) (λ es. refl))
+  within-taken new Beyond taken =
+      let too = taken.1 in
+      let least = least-same old.dfa.symbols n (AcceptsKept old.dfa c) (KeepsAll (h.kept ++ c ∷ [])) too.by h.carried_of.over (same-more n s h.kept old c h.carried_of) too.example in
+      let keepable : IsKeepable n (h.kept ++ c ∷ []) = record {
+        by = too.by;
+        over = least.over;
+        keeps = least.member;
+      } in
+      let wide : IsWideList n s (h.kept ++ c ∷ []) = over-wide old.dfa.symbols n s (AcceptsKept old.dfa c) (KeepsAll (h.kept ++ c ∷ [])) h.carried_of.over (same-more n s h.kept old c h.carried_of) too.wide in
+      rw taken.0 (stays-out Beyond (λ es more. (keepable, wide, more)) (λ es. refl))
+  within-taken new d taken = absurd taken
 
 pub sifting-length : (n s : ℕ) (list : List Constraint) (at : ℕ) (carried : KeptList) (ds : List Decision) → IsSiftingWithin n s list at carried ds → carried.length ≤ at
 sifting-length n s list at carried ds h = let long = h.carried_of.carried_length in let few = h.few in omega (arith, long, few)

@@ -1,9 +1,7 @@
 -- Witnesses within a limit, one candidate after the other.
-use Rattle.std.proofs.Common.{◌≡◌, ◌↔◌, ◌⊎◌, ℕ, suc, ◌+◌, ◌<◌, ◌≤◌, inl, inr, List, [], ◌∷◌, ◌++◌, Bool, true, false, Option, None, Some, length, map, take, drop, get_or, refl, sym, ap, subst, ◌∙◌, arith, add-one, append_assoc, drop-cons, length-drop}
-use Rattle.std.specs.List.{All}
+use Rattle.std.proofs.Common.{◌≡◌, ◌⊎◌, ℕ, ◌+◌, ◌<◌, ◌≤◌, inl, inr, List, [], ◌∷◌, ◌++◌, Bool, true, false, Option, None, Some, length, map, take, drop, get_or, refl, sym, ap, ◌∙◌, arith, add-one, append_assoc, drop-cons, length-drop}
 use Rattle.std.proofs.lemmas.Bool.{cases_lt}
 use Rattle.std.proofs.lemmas.List.{append-nil, drop_all, length_push, map-append, take-append-le, take_all, take_more}
-use Rattle.dfa_core.specs.Automaton.{IsEverything, state_count}
 use Rattle.dfa_core.specs.Languages.{HasNoMember, IsLeastMember}
 use Rattle.template_core.specs.declared.constraint.Constraint.{Constraint}
 use Rattle.reduce_model.proofs.FirstPasses.{length-marked, none-implies}
@@ -13,11 +11,11 @@ use Rattle.list_dfa.proofs.Keeping.{anything, keeps-append, keeps-push, push-kee
 use Rattle.reduce_model.proofs.Witnessing.{start-push, start-wide}
 use Rattle.reduce_model.specs.Deciding.{is_kept, is_left, marked, those}
 use Rattle.reduce_model.specs.Keeping.{KeepsAll}
-use Rattle.reduce_model.specs.Passes.{IsBreakable, IsFoundOf, IsNext, IsSmall, IsStart, IsStartOf, IsTestedWithin, IsWitnessedWithin, before_second_pass, length_of}
+use Rattle.reduce_model.specs.Passes.{IsBreakable, IsEmptyPrefix, IsFoundOf, IsNext, IsSmall, IsStartOf, IsTestedWithin, IsWitnessedWithin, before_second_pass, length_of}
 use Rattle.reduce_model.specs.Reduction.{Breaks, Implies}
 use Rattle.reduce_model.specs.Within.{AreWitnessesWithin, IsClosed, IsSecondPassedWithin, TellsUntested}
 use Rattle.reduce_model.specs.declared.decision.Decision.{Decision}
-use Rattle.reduce_model.specs.declared.decision.Decision.TheVariants.{Kept, Conflict, Weaker, FirstPass, SecondPass, Beyond, Untested}
+use Rattle.reduce_model.specs.declared.decision.Decision.TheVariants.{Kept, SecondPass, Untested}
 use Rattle.reduce_model.specs.declared.grown.Sought.TheVariants.{Found, TooWide}
 use Rattle.reduce_model.specs.declared.prefixes.Prefix.{Prefix}
 use Rattle.reduce_model.specs.declared.witnesses_within.Witnessed.{Witnessed}
@@ -50,11 +48,7 @@ module _ (n s : ℕ) (kept rest : List Constraint) (c : Constraint) where
   pub found-none : (before : Option Prefix) → IsStartOf n s kept before → IsFoundOf s before rest c None → IsClosed n s (kept ++ rest)
   found-none None start found = closed-append n s kept rest start
   found-none (Some prefix) start found =
-      let h = sought n s kept rest (kept ++ rest) prefix.dfa refl start.automaton start.narrow prefix.length start.counted c (TooWide (prefix.length + found.0)) (record {
-        count = found.0;
-        counted = refl;
-        from = found.1;
-      }) in
+      let h = sought n s kept rest (kept ++ rest) prefix.dfa refl start.automaton start.narrow prefix.length start.counted c (TooWide (prefix.length + found.0)) (found.0, refl, found.1) in
       record {
         size = prefix.length + found.0;
         wide = h.wide;
@@ -98,16 +92,16 @@ pub record IsWitnessingWithin (n s : ℕ) (list : List Constraint) (old new : Li
   pub untested : (es : List Decision) → map is_kept es ≡ map is_kept (drop at old) → TellsUntested n s left kept (drop at list) es → TellsUntested n s [] [] list (new ++ es)
   pub witnesses : (es : List Decision) (vs : List (List ℕ)) → map is_kept es ≡ map is_kept (drop at old) → AreWitnessesWithin n kept (drop at list) es vs → AreWitnessesWithin n [] list (new ++ es) (ws ++ vs)
 
-pub witnessing-none : (n s : ℕ) (list : List Constraint) (old new : List Decision) (prefix : Prefix) (ws : List (List ℕ)) → 1 ≤ s → IsTestedWithin n s [] list old → new ≡ [] → ws ≡ [] → IsEverything n prefix.dfa → prefix.length ≡ 0
+pub witnessing-none : (n s : ℕ) (list : List Constraint) (old new : List Decision) (prefix : Prefix) (ws : List (List ℕ)) → 1 ≤ s → IsTestedWithin n s [] list old → new ≡ [] → ws ≡ [] → IsEmptyPrefix n prefix
     → IsWitnessingWithin n s list old new 0 (Some prefix) ws
-witnessing-none n s list old new prefix ws some tested empty none every zero_ = rw (empty, none) (record {
+witnessing-none n s list old new prefix ws some tested empty none begins = rw (empty, none) (record {
   left = [];
   kept = [];
   many = refl;
   same = refl;
   start = record {
-    automaton = every-automaton n prefix.dfa every;
-    counted = zero_;
+    automaton = every-automaton n prefix.dfa begins.every;
+    counted = begins.none;
     narrow = λ size wide. empty-narrow n s some (rw (take-nil size) at wide);
   };
   few = omega arith;
@@ -121,58 +115,38 @@ witnessing-none n s list old new prefix ws some tested empty none every zero_ = 
 -- what a decision that doesn't stay says is what it said
 skip-tested : (n s : ℕ) (left : List Constraint) (c : Constraint) (list : List Constraint) (d : Decision) (ds : List Decision) → is_left d ≡ false → IsTestedWithin n s left (c ∷ list) (d ∷ ds) → IsTestedWithin n s left list ds
 skip-tested n s left c list Kept ds e h = cc
-skip-tested n s left c list Conflict ds e h = h
-skip-tested n s left c list (Weaker by) ds e h = h
-skip-tested n s left c list FirstPass ds e h = h
 skip-tested n s left c list SecondPass ds e h = cc
-skip-tested n s left c list Beyond ds e h = h
 skip-tested n s left c list Untested ds e h = cc
+skip-tested n s left c list d ds e h = h
 
 skip-second : (n s : ℕ) (left : List Constraint) (c : Constraint) (list : List Constraint) (d : Decision) (ds : List Decision) → is_left d ≡ false → IsSecondPassedWithin n s left list ds → IsSecondPassedWithin n s left (c ∷ list) (d ∷ ds)
 skip-second n s left c list Kept ds e h = cc
-skip-second n s left c list Conflict ds e h = h
-skip-second n s left c list (Weaker by) ds e h = h
-skip-second n s left c list FirstPass ds e h = h
 skip-second n s left c list SecondPass ds e h = cc
-skip-second n s left c list Beyond ds e h = h
 skip-second n s left c list Untested ds e h = cc
+skip-second n s left c list d ds e h = h
 
 skip-untested : (n s : ℕ) (left kept : List Constraint) (c : Constraint) (list : List Constraint) (d : Decision) (ds : List Decision) → is_left d ≡ false → TellsUntested n s left kept list ds → TellsUntested n s left kept (c ∷ list) (d ∷ ds)
 skip-untested n s left kept c list Kept ds e h = cc
-skip-untested n s left kept c list Conflict ds e h = h
-skip-untested n s left kept c list (Weaker by) ds e h = h
-skip-untested n s left kept c list FirstPass ds e h = h
 skip-untested n s left kept c list SecondPass ds e h = cc
-skip-untested n s left kept c list Beyond ds e h = h
 skip-untested n s left kept c list Untested ds e h = cc
+skip-untested n s left kept c list d ds e h = h
 
 skip-witnesses : (n : ℕ) (kept : List Constraint) (c : Constraint) (list : List Constraint) (d : Decision) (ds : List Decision) (vs : List (List ℕ)) → is_kept d ≡ false → AreWitnessesWithin n kept list ds vs
     → AreWitnessesWithin n kept (c ∷ list) (d ∷ ds) vs
 skip-witnesses n kept c list Kept ds vs e h = cc
-skip-witnesses n kept c list Conflict ds vs e h = h
-skip-witnesses n kept c list (Weaker by) ds vs e h = h
-skip-witnesses n kept c list FirstPass ds vs e h = h
-skip-witnesses n kept c list SecondPass ds vs e h = h
-skip-witnesses n kept c list Beyond ds vs e h = h
 skip-witnesses n kept c list Untested ds vs e h = cc
+skip-witnesses n kept c list d ds vs e h = h
 
 left-or-second : (d : Decision) → is_kept d ≡ false → (is_left d ≡ false) ⊎ (d ≡ SecondPass)
 left-or-second Kept e = cc
-left-or-second Conflict e = inl refl
-left-or-second (Weaker by) e = inl refl
-left-or-second FirstPass e = inl refl
 left-or-second SecondPass e = inr refl
-left-or-second Beyond e = inl refl
 left-or-second Untested e = cc
+left-or-second d e = inl refl
 
 pub kept-or-untested : (d : Decision) → is_kept d ≡ true → (d ≡ Kept) ⊎ (d ≡ Untested)
 kept-or-untested Kept e = inl refl
-kept-or-untested Conflict e = cc
-kept-or-untested (Weaker by) e = cc
-kept-or-untested FirstPass e = cc
-kept-or-untested SecondPass e = cc
-kept-or-untested Beyond e = cc
 kept-or-untested Untested e = inr refl
+kept-or-untested d e = cc
 
 module _ (n s : ℕ) (list : List Constraint) (old new : List Decision) (at : ℕ) (before : Option Prefix) (ws : List (List ℕ)) (in_list : at < length list) (many_old : length old ≡ length list)
     (h : IsWitnessingWithin n s list old new at before ws) where

@@ -4,19 +4,22 @@ use Rattle.std.specs.List.{AllByRecursion}
 use Rattle.std.proofs.lemmas.Bool.{cases_lt}
 use Rattle.std.proofs.lemmas.List.{append-nil, get_or_append_left, get_or_push, length-take-le, length_push, take-append-drop, take-append-le, take-take, take_all, take_more, take_rest}
 use Rattle.std.proofs.lemmas.Option.{slice_get-get_or}
+use Rattle.decl_base.specs.declared.refusal.Refusal.{Refusal}
+use Rattle.decl_base.specs.declared.refusal.Refusal.TheVariants.{States, Memory}
 use Rattle.dfa_core.specs.Languages.{HasNoMember, IsLeastMember}
 use Rattle.dfa_core.specs.Traces.{IsTrace}
 use Rattle.dfa_minimise.specs.Wide.{IsWide}
 use Rattle.template_core.specs.declared.constraint.Constraint.{Constraint}
 use Rattle.reduce_model.proofs.FirstPasses.{narrow-push}
 use Rattle.reduce_model.proofs.Grows.{sought}
+use Rattle.reduce_model.proofs.SecondPasses.{told-at}
 use Rattle.reduce_model.proofs.Lists.{all-append, all_but-at, length-all_but, phase-first, phase-narrow}
 use Rattle.list_dfa.proofs.Keeping.{anything, keeps-push, push-keeps}
 use Rattle.dfa_minimise.proofs.Widths.{over-wide, wide-over}
 use Rattle.reduce_model.specs.Building.{IsFirstOfWide, all_but_each, in_phase}
 use Rattle.list_dfa.specs.Extending.{AcceptsKept, Extends}
 use Rattle.reduce_model.specs.Keeping.{KeepsAll}
-use Rattle.reduce_model.specs.Passes.{AreFirstWitnesses, IsIrredundant, IsSought, IsSoughtFrom, IsStart, IsWitnessed}
+use Rattle.reduce_model.specs.Passes.{AreFirstWitnesses, AreMoreWitnesses, IsIrredundant, IsSought, IsSoughtFrom, IsStart, IsWitnessed, RefusesWitness, RefusesWitnesses}
 use Rattle.list_dfa.specs.Lists.{IsFirstPrefix, IsNarrowList}
 use Rattle.reduce_model.specs.Reduction.{AreWitnesses, Breaks}
 use Rattle.reduce_model.specs.declared.grown.Sought.{Sought}
@@ -171,12 +174,15 @@ all-less n s [] (suc less) most le h = tt
 all-less n s (list ∷ lists) (suc less) zero le h = absurd (omega (arith, le))
 all-less n s (list ∷ lists) (suc less) (suc most) le h = (h.0, all-less n s lists less most (omega (arith, le)) h.1)
 
-module _ (n s : ℕ) (model : List Constraint) (at : ℕ) (in_model : at < length model) (before : Prefix) (ws : List (List ℕ)) (h : IsWitnessingAt n s model at before ws) where
+-- what the others of the constraint at a place say of it
+pub but-sought : {n s : ℕ} (model : List Constraint) (at : ℕ) {before : Prefix} → IsStart n s (take at model) before → (r : Sought)
+    → IsSoughtFrom s before.dfa before.length (drop (suc at) model) (get_or model at anything) r → IsSought n s (but at model) (get_or model at anything) r
+but-sought {n = n} {s = s} model at {before = before} start r found =
+    sought n s (take at model) (drop (suc at) model) (but at model) before.dfa refl start.automaton start.narrow before.length start.counted (get_or model at anything) r found
+
+module _ {n s : ℕ} {model : List Constraint} {at : ℕ} {before : Prefix} {ws : List (List ℕ)} (in_model : at < length model) (h : IsWitnessingAt n s model at before ws) where
   pub narrow-at : AllByRecursion (IsNarrowList n s) (take at (all_but_each [] model))
   narrow-at = all-less n s (all_but_each [] model) at (length ws) h.enough h.witnessing.narrow
-
-  pub at-sought : (c : Constraint) (r : Sought) → IsSoughtFrom s before.dfa before.length (drop (suc at) model) c r → IsSought n s (but at model) c r
-  at-sought c r found = let start = h.start in_model in sought n s (take at model) (drop (suc at) model) (but at model) before.dfa refl start.automaton start.narrow before.length start.counted c r found
 
   pub at-length : before.length ≡ at
   at-length = let start = h.start in_model in start.counted ∙ length-take-le at model (omega (arith, in_model))
@@ -191,7 +197,7 @@ module _ (n s : ℕ) (model : List Constraint) (at : ℕ) (in_model : at < lengt
   start-more more limit x long = rw longer (start-push n s (take at model) before more c limit (h.start in_model) x long)
 
   -- one more witness is known, as it is found or from before
-  pub at-found : (t : List ℕ) → length ws ≡ at → IsLeastMember n (Breaks (but at model) c) t → IsNarrowList n s (but at model) → IsWitnessingAt n s model at before (ws ++ t ∷ []) × (at + 1 ≤ length (ws ++ t ∷ []))
+  at-found : (t : List ℕ) → length ws ≡ at → IsLeastMember n (Breaks (but at model) c) t → IsNarrowList n s (but at model) → IsWitnessingAt n s model at before (ws ++ t ∷ []) × (at + 1 ≤ length (ws ++ t ∷ []))
   at-found t many least narrow =
       let long = length_push ws t in
       let old : IsWitnessing n s model at ws = subst (λ (k : ℕ). IsWitnessing n s model k ws) many h.witnessing in
@@ -206,8 +212,14 @@ module _ (n s : ℕ) (model : List Constraint) (at : ℕ) (in_model : at < lengt
         omega (arith, e),
       )
 
-  pub at-known : (length ws ≡ at → ⊥) → IsWitnessingAt n s model at before ws × (at + 1 ≤ length ws)
-  at-known more = let enough = h.enough in (h, omega (arith, enough, more))
+  pub witness-refused : (refusal : Refusal) → RefusesWitness n s model at refusal → RefusesWitnesses n s model refusal
+  witness-refused (States phase built) refuses = rw refuses.0 (witnessing-refused n s model at in_model built narrow-at (told-at in_model refuses.1))
+  witness-refused Memory refuses = tt
+  witness-refused refusal refuses = absurd refuses
+
+  pub at-more : (new : List (List ℕ)) → AreMoreWitnesses n s model at ws new → IsWitnessingAt n s model at before new × (at + 1 ≤ length new)
+  at-more new (inl known) = rw known.1 (let enough = h.enough in let other = known.0 in (h, omega (arith, enough, other)))
+  at-more new (inr found) = let sought = told-at in_model found.1.2 in rw found.1.1 (at-found found.1.0 found.0 sought.0 sought.1)
 
   -- the next place
   pub next-last : at + 1 ≤ length ws → length model ≤ at + 1 → IsWitnessingAt n s model (at + 1) before ws

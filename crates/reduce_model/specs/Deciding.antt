@@ -2,7 +2,7 @@
 use Rattle.std.specs.Prelude.{◌≡◌, ℕ, suc, List, [], ◌∷◌, Bool, true, false, Some, map, take, drop, slice_get}
 use Rattle.template_core.specs.declared.constraint.Constraint.{Constraint}
 use Rattle.reduce_model.specs.declared.decision.Decision.{Decision}
-use Rattle.reduce_model.specs.declared.decision.Decision.TheVariants.{Kept, Conflict, Weaker, SecondPass, Beyond, Untested}
+use Rattle.reduce_model.specs.declared.decision.Decision.TheVariants.{Kept, Conflict, Weaker, FirstPass, SecondPass, Beyond, Untested}
 
 -- it is in the conflict-free model
 abbrev pub is_consistent : Decision → Bool
@@ -12,23 +12,18 @@ is_consistent decision = true
 
 -- and no other constraint of that model is above it
 abbrev pub is_strongest : Decision → Bool
-is_strongest Conflict = false
-is_strongest Beyond = false
 is_strongest (Weaker by) = false
-is_strongest decision = true
+is_strongest decision = is_consistent decision
 
 -- and the first pass leaves it
 abbrev pub is_left : Decision → Bool
-is_left Kept = true
-is_left SecondPass = true
-is_left Untested = true
-is_left decision = false
+is_left FirstPass = false
+is_left decision = is_strongest decision
 
 -- and the second pass leaves it
 abbrev pub is_kept : Decision → Bool
-is_kept Kept = true
-is_kept Untested = true
-is_kept decision = false
+is_kept SecondPass = false
+is_kept decision = is_left decision
 
 -- a limit on states gives it in place of a refusal
 abbrev pub is_at_limit : Decision → Bool

@@ -1,15 +1,16 @@
 -- What each step of the reduction is given and what it makes of the decisions: internal to the crate.
 use Rattle.std.specs.List.{All as Every, HoldsAt}
-use Rattle.std.specs.Prelude.{◌≡◌, ℕ, suc, ◌+◌, ◌<◌, ◌≤◌, List, [], ◌∷◌, ◌++◌, Bool, Option, None, Some, length, map, take, drop, get_or, slice_get, ⊤}
-use Rattle.decl_base.specs.Limits.{greatest_state_limit}
+use Rattle.std.specs.Prelude.{◌≡◌, ◌⊎◌, ℕ, suc, ◌+◌, ◌<◌, ◌≤◌, List, [], ◌∷◌, ◌++◌, Bool, Option, None, Some, length, map, take, drop, get_or, slice_get, ⊤}
+use Rattle.decl_base.specs.Limits.{greatest_state_limit, standard}
 use Rattle.decl_base.specs.declared.refusal.Refusal.{Refusal}
 use Rattle.decl_base.specs.declared.refusal.Refusal.TheVariants.{States, Memory}
-use Rattle.dfa_core.specs.Automaton.{Automaton, state_count}
+use Rattle.dfa_core.specs.Automaton.{Automaton, IsEverything, state_count}
 use Rattle.dfa_core.specs.Languages.{HasNoMember, IsLeastMember}
 use Rattle.dfa_minimise.specs.Wide.{IsWide}
+use Rattle.template_core.specs.Constraints.{IsWellMadeFor}
 use Rattle.template_core.specs.declared.constraint.Constraint.{Constraint}
 use Rattle.reduce_model.specs.Building.{AreNarrow, IsFirstOfWide, all_but_each, in_phase, tests, up_to_each}
-use Rattle.reduce_model.specs.Deciding.{as_sifted, is_kept, is_left, is_strongest, marked, those}
+use Rattle.reduce_model.specs.Deciding.{after, as_sifted, before, is_kept, is_left, is_strongest, marked, those}
 use Rattle.reduce_model.specs.Keeping.{KeepsAll, KeepsOne}
 use Rattle.reduce_model.specs.Reduction.{AreWitnesses, Breaks, Implies, IsReduction, TellsFirstPass, TellsSecondPass, TellsWeaker}
 use Rattle.list_dfa.specs.Extending.{AcceptsKept, Extends}
@@ -25,17 +26,22 @@ use Rattle.reduce_model.specs.declared.witnesses_within.Witnessed.{Witnessed}
 use Rattle.list_dfa.specs.Growing.{AcceptsAll, IsNarrowFrom, IsWideFrom}
 use Rattle.list_dfa.specs.Lists.{IsNarrowList, IsFirstPrefix, IsAutomatonOf}
 
--- a decision without the marks of the first pass and of what comes after it, and without those of what comes after the first pass
-abbrev pub before_first_pass : Decision → Decision
-before_first_pass FirstPass = Kept
-before_first_pass SecondPass = Kept
-before_first_pass Untested = Kept
-before_first_pass decision = decision
-
+-- a decision without the marks of what comes after the first pass, and without those of the first pass too
 abbrev pub before_second_pass : Decision → Decision
 before_second_pass SecondPass = Kept
 before_second_pass Untested = Kept
 before_second_pass decision = decision
+
+abbrev pub before_first_pass : Decision → Decision
+before_first_pass FirstPass = Kept
+before_first_pass decision = before_second_pass decision
+
+-- what each step is asked for: few constraints, each well made over the symbols below n, and a limit on states that a list may have
+pub record IsAsked (n s : ℕ) (list : List Constraint) : Type 0 where
+  pub made : Every (IsWellMadeFor n) list
+  pub few : length list ≤ standard.candidates
+  pub some_states : 1 ≤ s
+  pub few_states : s ≤ greatest_state_limit
 
 -- what pruning makes of decisions
 pub record IsPruned (list : List Constraint) (old new : List Decision) : Type 0 where
@@ -103,6 +109,24 @@ IsSought n s list c (Found trace) = IsLeastMember n (Breaks list c) trace × IsN
 IsSought n s list c Missing = HasNoMember n (Breaks list c) × IsNarrowList n s list
 IsSought n s list c (TooWide size) = IsFirstPrefix n s list size
 
+-- what others say of the constraint at a place of a list
+pub record IsSoughtAt (n s : ℕ) (list : List Constraint) (place : ℕ) (others : List Constraint) (sought : Sought) : Type 0 where
+  pub tells : (c : Constraint) → slice_get list place ≡ Some c → IsSought n s others c sought
+
+-- whether the others that stand imply the candidate at a place
+abbrev pub IsTestedAt : ℕ → ℕ → List Constraint → List Decision → ℕ → Sought → Type 0
+IsTestedAt n s list decisions place = IsSoughtAt n s list place (before is_kept place list decisions ++ after is_kept place list decisions)
+
+-- one witness more is known where those of old are as many as the constraints before the place, and when that stops
+abbrev pub AreMoreWitnesses : ℕ → ℕ → List Constraint → ℕ → List (List ℕ) → List (List ℕ) → Type 0
+AreMoreWitnesses n s model place old new =
+    ((length old ≡ place → ⊥) × (new ≡ old)) ⊎ ((length old ≡ place) × ((w : List ℕ) × (new ≡ old ++ w ∷ []) × IsSoughtAt n s model place (take place model ++ drop (suc place) model) (Found w)))
+
+abbrev pub RefusesWitness : ℕ → ℕ → List Constraint → ℕ → Refusal → Type 0
+RefusesWitness n s model place (States phase built) = (phase ≡ 4) × IsSoughtAt n s model place (take place model ++ drop (suc place) model) (TooWide built)
+RefusesWitness n s model place Memory = ⊤
+RefusesWitness n s model place refusal = ⊥
+
 -- a list as a prefix of others
 pub record IsStart (n s : ℕ) (list : List Constraint) (prefix : Prefix) : Type 0 where
   pub automaton : IsAutomatonOf n list prefix.dfa
@@ -122,20 +146,35 @@ pub record AreKeptPrefixes (n s : ℕ) (list : List Constraint) (marks : List Bo
   pub first : HoldsAt (λ (prefix : Prefix). prefix.place ≡ 0) prefixes 0
   pub are : Every (IsPrefixOf n s list marks) prefixes
 
+-- the prefix of no candidate, and that it stands alone
+pub record IsEmptyPrefix (n : ℕ) (prefix : Prefix) : Type 0 where
+  pub every : IsEverything n prefix.dfa
+  pub place : prefix.place ≡ 0
+  pub none : prefix.length ≡ 0
+
+pub record IsFirstPrefixAlone (n : ℕ) (prefixes : List Prefix) : Type 0 where
+  pub prefix : Prefix
+  pub alone : prefixes ≡ prefix ∷ []
+  pub empty : IsEmptyPrefix n prefix
+
+-- a prefix with one constraint more, or that it is wide
+abbrev pub IsLonger : ℕ → Prefix → Constraint → Option Prefix → Type 0
+IsLonger s prefix c None = IsWide prefix.dfa.symbols (AcceptsKept prefix.dfa c) s
+IsLonger s prefix c (Some more) = Extends s prefix.dfa c more.dfa × (more.length ≡ prefix.length + 1)
+
+-- a prefix stands behind the others, or there was no room for it
+abbrev pub IsKeptBehind : List Prefix → Prefix → List Prefix → Type 0
+IsKeptBehind old prefix new = (new ≡ old ++ prefix ∷ []) ⊎ (new ≡ old)
+
 -- what an automaton accepts that keeps a list too and breaks a constraint
 abbrev pub AcceptsBreaks : Automaton → List Constraint → Constraint → List ℕ → Type 0
 AcceptsBreaks a list c w = AcceptsAll a list w × (KeepsOne c w → ⊥)
 
 -- the least such trace, or the first part of the list that is wide: its length is counted on
-pub record IsWideAfter (s : ℕ) (a : Automaton) (before : ℕ) (list : List Constraint) (size : ℕ) : Type 0 where
-  pub count : ℕ
-  pub counted : size ≡ before + count
-  pub from : IsWideFrom s a list count
-
 abbrev pub IsSoughtFrom : ℕ → Automaton → ℕ → List Constraint → Constraint → Sought → Type 0
 IsSoughtFrom s a before list c (Found trace) = IsLeastMember a.symbols (AcceptsBreaks a list c) trace × IsNarrowFrom s a list
 IsSoughtFrom s a before list c Missing = HasNoMember a.symbols (AcceptsBreaks a list c) × IsNarrowFrom s a list
-IsSoughtFrom s a before list c (TooWide size) = IsWideAfter s a before list size
+IsSoughtFrom s a before list c (TooWide size) = (count : ℕ) × (size ≡ before + count) × IsWideFrom s a list count
 
 -- ---- within a limit
 
@@ -181,8 +220,7 @@ length_of (Some prefix) = prefix.length
 
 abbrev pub IsNext : ℕ → Option Prefix → Constraint → Option Prefix → Type 0
 IsNext s None c next = next ≡ None
-IsNext s (Some prefix) c None = IsWide prefix.dfa.symbols (AcceptsKept prefix.dfa c) s
-IsNext s (Some prefix) c (Some next) = Extends s prefix.dfa c next.dfa × (next.length ≡ prefix.length + 1)
+IsNext s (Some prefix) c next = IsLonger s prefix c next
 
 -- what is found of the others of a constraint: nothing where there is no automaton of those before it, or a list with them is wide
 abbrev pub IsFoundOf : ℕ → Option Prefix → List Constraint → Constraint → Option (List ℕ) → Type 0
@@ -201,12 +239,6 @@ pub record IsWitnessedWithin (n s : ℕ) (list : List Constraint) (old : List De
   pub second_pass : IsSecondPassedWithin n s [] list witnessed.decisions.items
   pub untested : TellsUntested n s [] [] list witnessed.decisions.items
   pub witnesses : AreWitnessesWithin n [] list witnessed.decisions.items witnessed.witnesses.items
-
--- what the second pass and the witnesses make of decisions
-pub record IsTestedTo (n s : ℕ) (list : List Constraint) (old : List Decision) (witnessed : Witnessed) : Type 0 where
-  pub passed : List Decision
-  pub second : IsSecondPassedTo n s list old passed
-  pub in_the_end : IsWitnessedWithin n s list passed witnessed
 
 -- what becomes of a sift's decisions in the end: with its least trace a reduction
 abbrev pub IsDroppedWithin : ℕ → ℕ → List Constraint → List Decision → Witnessed → Type 0

@@ -1,6 +1,5 @@
 -- The reduction that goes on at the limit: where a list is wide, the constraint that would make it so is left out, or no test of it is made.
-use Rattle.std.specs.Prelude.{◌≡◌, ◌↔◌, ◌⊎◌, ℕ, List, [], ◌∷◌, ◌++◌, Bool, true, false, map, length, take, ⊤}
-use Rattle.decl_base.specs.declared.refusal.Refusal.{Refusal}
+use Rattle.std.specs.Prelude.{◌⊎◌, ℕ, List, [], ◌∷◌, ◌++◌, Bool, true, false, map, take, ⊤}
 use Rattle.dfa_core.specs.Languages.{HasNoMember, IsLeastMember}
 use Rattle.dfa_minimise.specs.Wide.{IsWide}
 use Rattle.template_core.specs.declared.constraint.Constraint.{Constraint}

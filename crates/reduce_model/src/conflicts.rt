@@ -3,10 +3,9 @@ ghost use Rattle.decl_base.specs.Limits.{greatest_state_limit, standard};
 ghost use Rattle.template_core.specs.Constraints.{IsWellMadeFor};
 ghost use Rattle.reduce_model.specs.Sifting.{IsSift, RefusesSift};
 
-use crate::kept::{Joined, KeptList};
+use crate::kept::KeptList;
 use crate::{Decision, Sifted};
-use decl_base::{Refusal, Trace};
-use dfa_core::Dfa;
+use decl_base::Refusal;
 use std::alloc::Global;
 use template_core::Constraint;
 
@@ -25,36 +24,18 @@ pub fn sift(
     ensures ok { IfOk result (IsSift symbols states list.now) }
     ensures err { IfErr result (RefusesSift symbols states list.now) }
 {
-    let mut kept = KeptList {
-        dfa: Dfa::everything(alloc, symbols)?,
-        length: 0,
-        example: Trace::of(alloc, &[])?,
-    };
+    let mut kept = KeptList::empty(alloc, symbols)?;
     let mut decisions = Vec::new(alloc);
     let mut last = 1;
     for candidate in list {
-        match kept.joined(alloc, candidate, states, &mut last)? {
-            Joined::Implied => {
-                kept.length += 1;
-                decisions.push(Decision::Kept)?;
+        match kept.take_in(alloc, candidate, states, &mut last)? {
+            Decision::Beyond => {
+                let built = kept.length + 1;
+                return Err(Refusal::States { phase: 1, built });
             }
-            Joined::Joins(joined) => {
-                kept = joined;
-                decisions.push(Decision::Kept)?;
-            }
-            Joined::Wide => {
-                return Err(Refusal::States {
-                    phase: 1,
-                    built: kept.length + 1,
-                });
-            }
-            Joined::Conflicts => decisions.push(Decision::Conflict)?,
+            decision => decisions.push(decision)?,
         }
     }
-    let KeptList {
-        dfa: _,
-        length: _,
-        example,
-    } = kept;
+    let KeptList { example, .. } = kept;
     Ok(Sifted { decisions, example })
 }

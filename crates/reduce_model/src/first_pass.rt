@@ -1,12 +1,10 @@
-ghost use Rattle.std.specs.Prelude.{◌≡◌, ◌≤◌, length, map, All, IfOk, IfErr};
-ghost use Rattle.decl_base.specs.Limits.{greatest_state_limit, standard};
-ghost use Rattle.template_core.specs.Constraints.{IsWellMadeFor};
+ghost use Rattle.std.specs.Prelude.{◌≡◌, length, map, IfOk, IfErr};
 ghost use Rattle.reduce_model.specs.Deciding.{is_left};
-ghost use Rattle.reduce_model.specs.Passes.{before_first_pass, AreKeptPrefixes, IsFirstPassed, RefusesFirstPass};
+ghost use Rattle.reduce_model.specs.Passes.{before_first_pass, AreKeptPrefixes, IsAsked, IsFirstPassed, RefusesFirstPass};
 
 use crate::Decision;
 use crate::kept::{Tried, try_candidate};
-use crate::prefixes::{Prefix, keep};
+use crate::prefixes::{Prefix, first_prefix, keep};
 use decl_base::Refusal;
 use dfa_core::Dfa;
 use std::alloc::Global;
@@ -23,11 +21,8 @@ pub(crate) fn pass_first(
     states: u64,
     decisions: &mut [Decision],
 ) -> Result<Vec<Prefix>, Refusal>
-    requires made { All (IsWellMadeFor symbols) list.now }
+    requires asked { IsAsked symbols states list.now }
     requires as_many { length decisions.old ≡ length list.now }
-    requires few { length list.now ≤ standard.candidates }
-    requires some_states { 1 ≤ states }
-    requires few_states { states ≤ greatest_state_limit }
     requires pruned { map before_first_pass decisions.old ≡ decisions.old }
     ensures ok { IfOk result (λ prefixes. IsFirstPassed symbols states list.now decisions.old decisions.new) }
     ensures kept { IfOk result (λ prefixes. AreKeptPrefixes symbols states list.now (map is_left decisions.new) prefixes.items) }
@@ -35,34 +30,20 @@ pub(crate) fn pass_first(
 {
     let mut left = Dfa::everything(alloc, symbols)?;
     let mut length = 0;
-    let mut prefixes = Vec::new(alloc);
-    prefixes.push(Prefix {
-        dfa: Dfa::everything(alloc, symbols)?,
-        place: 0,
-        length,
-    })?;
+    let mut prefixes = first_prefix(alloc, symbols)?;
     let mut spare = MOST_ENTRIES;
     let mut last = 1;
     for place in 0..list.len() {
         if decisions[place].is_kept() {
+            let built = length + 1;
             match try_candidate(alloc, &left, &list[place], states, &mut last)? {
                 Tried::Implied => decisions[place] = Decision::FirstPass,
                 Tried::Left(more) => {
-                    let prefix = Prefix {
-                        dfa: left,
-                        place,
-                        length,
-                    };
-                    keep(&mut prefixes, &mut spare, prefix)?;
+                    keep(&mut prefixes, &mut spare, left, place, length)?;
                     left = more;
-                    length += 1;
+                    length = built;
                 }
-                Tried::TooWide => {
-                    return Err(Refusal::States {
-                        phase: 2,
-                        built: length + 1,
-                    });
-                }
+                Tried::TooWide => return Err(Refusal::States { phase: 2, built }),
             }
         }
     }

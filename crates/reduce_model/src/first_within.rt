@@ -1,12 +1,10 @@
-ghost use Rattle.std.specs.Prelude.{◌≡◌, ◌≤◌, length, map, All, IfOk, IfErr};
-ghost use Rattle.decl_base.specs.Limits.{greatest_state_limit, standard};
-ghost use Rattle.template_core.specs.Constraints.{IsWellMadeFor};
-ghost use Rattle.reduce_model.specs.Passes.{before_first_pass, IsFirstPassedOf};
+ghost use Rattle.std.specs.Prelude.{◌≡◌, length, map, IfOk, IfErr};
+ghost use Rattle.reduce_model.specs.Passes.{before_first_pass, IsAsked, IsFirstPassedOf};
 
 use crate::Decision;
 use crate::first_pass::MOST_ENTRIES;
 use crate::kept::{Tried, try_candidate};
-use crate::prefixes::{Prefix, keep};
+use crate::prefixes::{Prefix, first_prefix, keep};
 use decl_base::Refusal;
 use dfa_core::Dfa;
 use std::alloc::Global;
@@ -31,23 +29,15 @@ pub(crate) fn pass_first_within(
     states: u64,
     decisions: &[Decision],
 ) -> Result<FirstPassed, Refusal>
-    requires made { All (IsWellMadeFor symbols) list.now }
+    requires asked { IsAsked symbols states list.now }
     requires as_many { length decisions.now ≡ length list.now }
-    requires few { length list.now ≤ standard.candidates }
-    requires some_states { 1 ≤ states }
-    requires few_states { states ≤ greatest_state_limit }
     requires pruned { map before_first_pass decisions.now ≡ decisions.now }
     ensures ok { IfOk result (IsFirstPassedOf symbols states list.now decisions.now) }
     ensures err { IfErr result (λ e. e ≡ Refusal.Memory) }
 {
     let mut joined = Dfa::everything(alloc, symbols)?;
     let mut length = 0;
-    let mut prefixes = Vec::new(alloc);
-    prefixes.push(Prefix {
-        dfa: Dfa::everything(alloc, symbols)?,
-        place: 0,
-        length,
-    })?;
+    let mut prefixes = first_prefix(alloc, symbols)?;
     let mut spare = MOST_ENTRIES;
     let mut last = 1;
     let mut wide = list.len();
@@ -59,21 +49,12 @@ pub(crate) fn pass_first_within(
                 Tried::Implied => decision = Decision::FirstPass,
                 Tried::Left(more) => {
                     if wide == list.len() {
-                        let prefix = Prefix {
-                            dfa: joined,
-                            place,
-                            length,
-                        };
-                        keep(&mut prefixes, &mut spare, prefix)?;
+                        keep(&mut prefixes, &mut spare, joined, place, length)?;
                         length += 1;
                     }
                     joined = more;
                 }
-                Tried::TooWide => {
-                    if place < wide {
-                        wide = place;
-                    }
-                }
+                Tried::TooWide => wide = wide.min(place),
             }
         }
         passed.push(decision)?;

@@ -2,8 +2,9 @@ ghost use Rattle.std.specs.Prelude.{◌≡◌, ◌+◌, ◌<◌, ◌≤◌, ◌^
 ghost use Rattle.decl_base.specs.Limits.{greatest_state_limit};
 ghost use Rattle.dfa_core.specs.Automaton.{state_count};
 ghost use Rattle.template_core.specs.Constraints.{IsWellMade};
-ghost use Rattle.reduce_model.specs.Joining.{IsJoined, IsTried};
+ghost use Rattle.reduce_model.specs.Joining.{IsEmptyKept, IsTakenIn, IsTried};
 
+use crate::Decision;
 use decl_base::{Refusal, Trace};
 use dfa_core::Dfa;
 use dfa_product::{Want, first_trace};
@@ -20,19 +21,6 @@ pub(crate) struct KeptList {
     pub example: Trace,
 }
 
-/// What comes of a candidate at the end of a list.
-#[derive(Drop)]
-pub(crate) enum Joined {
-    /// The list implies it: with the candidate it has the same traces.
-    Implied,
-    /// The list with the candidate.
-    Joins(KeptList),
-    /// Some trace keeps the list and the candidate, and together they tell too many traces apart.
-    Wide,
-    /// No trace keeps the list and the candidate.
-    Conflicts,
-}
-
 /// What comes of a candidate that a list may imply.
 #[derive(Drop)]
 pub(crate) enum Tried {
@@ -45,34 +33,50 @@ pub(crate) enum Tried {
 }
 
 impl KeptList {
-    /// The list with the candidate at its end.
-    pub fn joined(
-        &self,
+    /// The list of no constraint.
+    pub fn empty(alloc: Global, symbols: u32) -> Result<KeptList, Refusal>
+        ensures ok { IfOk result (IsEmptyKept symbols) }
+        ensures err { IfErr result (λ e. e ≡ Refusal.Memory) }
+    {
+        Ok(KeptList {
+            dfa: Dfa::everything(alloc, symbols)?,
+            length: 0,
+            example: Trace::of(alloc, &[])?,
+        })
+    }
+
+    /// Puts a candidate at the end of the list where some trace keeps both and they don't tell too many traces apart.
+    pub fn take_in(
+        &mut self,
         alloc: Global,
         candidate: &Constraint,
         states: u64,
         last: &mut u32,
-    ) -> Result<Joined, Refusal>
+    ) -> Result<Decision, Refusal>
         requires made { IsWellMade candidate.now.kind candidate.now.first candidate.now.second }
-        requires few { state_count self.now.dfa ≤ greatest_state_limit }
-        requires room { self.now.length + 1 < 2 ^ 32 }
-        ensures ok { IfOk result (IsJoined states self.now candidate.now) }
+        requires few { state_count self.old.dfa ≤ greatest_state_limit }
+        requires room { self.old.length + 1 < 2 ^ 32 }
+        ensures ok { IfOk result (IsTakenIn states self.old candidate.now self.new) }
         ensures err { IfErr result (λ e. e ≡ Refusal.Memory) }
     {
         if first_broken(alloc, &self.dfa, candidate)?.is_none() {
-            return Ok(Joined::Implied);
+            self.length += 1;
+            return Ok(Decision::Kept);
         }
         let both = narrowed(alloc, &self.dfa, candidate)?;
         let Some(example) = first_trace(alloc, &both, &Want::Accepted)? else {
-            return Ok(Joined::Conflicts);
+            return Ok(Decision::Conflict);
         };
         match fitted(alloc, both, states, last)? {
-            Some(dfa) => Ok(Joined::Joins(KeptList {
-                dfa,
-                length: self.length + 1,
-                example,
-            })),
-            None => Ok(Joined::Wide),
+            Some(dfa) => {
+                *self = KeptList {
+                    dfa,
+                    length: self.length + 1,
+                    example,
+                };
+                Ok(Decision::Kept)
+            }
+            None => Ok(Decision::Beyond),
         }
     }
 }

@@ -1,13 +1,13 @@
 ghost use Rattle.std.specs.Prelude.{◌≤◌, [], length, All, IfOk, IfErr};
 ghost use Rattle.decl_base.specs.Limits.{greatest_state_limit, standard};
 ghost use Rattle.template_core.specs.Constraints.{IsWellMadeFor};
-ghost use Rattle.reduce_model.specs.Passes.{IsImpliedDropped};
+ghost use Rattle.reduce_model.specs.Passes.{IsAsked, IsImpliedDropped};
 ghost use Rattle.reduce_model.specs.Reduction.{IsReduction, RefusesReduction};
 ghost use Rattle.reduce_model.specs.Sifting.{IsNarrow, IsSifted};
 
 use crate::first_pass::pass_first;
 use crate::others::push_kept;
-use crate::prefixes::longest_within;
+use crate::prefixes::longest;
 use crate::pruning::prune;
 use crate::second_pass::pass_second;
 use crate::witnesses::witnesses_of;
@@ -51,10 +51,7 @@ fn drop_implied(
     states: u64,
     decisions: &mut [Decision],
 ) -> Result<Vec<Trace>, Refusal>
-    requires made { All (IsWellMadeFor symbols) list.now }
-    requires few { length list.now ≤ standard.candidates }
-    requires some_states { 1 ≤ states }
-    requires few_states { states ≤ greatest_state_limit }
+    requires asked { IsAsked symbols states list.now }
     requires sifted { IsSifted symbols [] list.now decisions.old }
     requires narrow { IsNarrow symbols states list.now }
     ensures ok { IfOk result (λ witnesses. IsImpliedDropped symbols states list.now decisions.old decisions.new witnesses.items) }
@@ -65,6 +62,6 @@ fn drop_implied(
     let found = pass_second(alloc, list, symbols, states, &prefixes, decisions)?;
     let mut model = Vec::new(alloc);
     push_kept(list, decisions, &mut model)?;
-    let start = &prefixes[longest_within(&prefixes, found.len() as u32)];
+    let start = &prefixes[longest(&prefixes, list.len(), found.len() as u32)];
     witnesses_of(alloc, &model, symbols, states, start, found)
 }

@@ -1,13 +1,11 @@
-ghost use Rattle.std.specs.Prelude.{◌≡◌, ◌≤◌, ◌<◌, ◌++◌, [], length, map, take, drop, All, IfOk, IfErr};
-ghost use Rattle.decl_base.specs.Limits.{greatest_state_limit, standard};
-ghost use Rattle.template_core.specs.Constraints.{IsWellMadeFor};
+ghost use Rattle.std.specs.Prelude.{◌≡◌, ◌≤◌, ◌<◌, ◌++◌, [], length, map, take, drop, IfOk, IfErr};
 ghost use Rattle.reduce_model.specs.Deciding.{after, is_kept, is_left, marked, those};
-ghost use Rattle.reduce_model.specs.Passes.{before_second_pass, AreFirstWitnesses, AreKeptPrefixes, IsSecondPassed, RefusesSecondPass};
+ghost use Rattle.reduce_model.specs.Passes.{before_second_pass, AreFirstWitnesses, AreKeptPrefixes, IsAsked, IsSecondPassed, IsTestedAt, RefusesSecondPass};
 
 use crate::Decision;
 use crate::grown::{Sought, seek};
 use crate::others::push_kept;
-use crate::prefixes::{Prefix, longest_before};
+use crate::prefixes::{Prefix, longest};
 use decl_base::{Refusal, Trace};
 use std::alloc::{AllocError, Global};
 use template_core::Constraint;
@@ -22,11 +20,8 @@ pub(crate) fn pass_second(
     prefixes: &[Prefix],
     decisions: &mut [Decision],
 ) -> Result<Vec<Trace>, Refusal>
-    requires made { All (IsWellMadeFor symbols) list.now }
+    requires asked { IsAsked symbols states list.now }
     requires as_many { length decisions.old ≡ length list.now }
-    requires few { length list.now ≤ standard.candidates }
-    requires some_states { 1 ≤ states }
-    requires few_states { states ≤ greatest_state_limit }
     requires kept { AreKeptPrefixes symbols states list.now (map is_left decisions.old) prefixes.now }
     requires passed { map before_second_pass decisions.old ≡ decisions.old }
     ensures ok { IfOk result (λ found. IsSecondPassed symbols states list.now decisions.old decisions.new) }
@@ -40,24 +35,49 @@ pub(crate) fn pass_second(
     while place > 0 {
         place -= 1;
         if decisions[place].is_kept() {
-            let start = &prefixes[longest_before(prefixes, place)];
-            let others = others_from(alloc, list, decisions, start.place, place)?;
-            match seek(alloc, start, &others, &list[place], symbols, states)? {
-                Sought::Found(trace) => found.push(trace)?,
+            let sought = test_at(alloc, list, symbols, states, prefixes, decisions, place)?;
+            decisions[place] = match sought {
+                Sought::Found(witness) => {
+                    found.push(witness)?;
+                    Decision::Kept
+                }
                 Sought::Missing => {
-                    decisions[place] = Decision::SecondPass;
                     found.clear();
+                    Decision::SecondPass
                 }
                 Sought::TooWide(built) => return Err(Refusal::States { phase: 3, built }),
-            }
+            };
         }
     }
     found.reverse();
     Ok(found)
 }
 
+/// Whether the others that still stand imply the candidate at a place. Those before it that are left all still stand.
+pub(crate) fn test_at(
+    alloc: Global,
+    list: &[Constraint],
+    symbols: u32,
+    states: u64,
+    prefixes: &[Prefix],
+    decisions: &[Decision],
+    place: usize,
+) -> Result<Sought, Refusal>
+    requires asked { IsAsked symbols states list.now }
+    requires as_many { length decisions.now ≡ length list.now }
+    requires kept { AreKeptPrefixes symbols states list.now (map is_left decisions.now) prefixes.now }
+    requires there { place < length list.now }
+    requires standing { take place (map is_kept decisions.now) ≡ take place (map is_left decisions.now) }
+    ensures ok { IfOk result (IsTestedAt symbols states list.now decisions.now place) }
+    ensures err { IfErr result (λ e. e ≡ Refusal.Memory) }
+{
+    let start = &prefixes[longest(prefixes, place, u32::MAX)];
+    let others = others_from(alloc, list, decisions, start.place, place)?;
+    seek(alloc, start, &others, &list[place], symbols, states)
+}
+
 /// The candidates that stand from a place on, but for the one at another.
-pub(crate) fn others_from(
+fn others_from(
     alloc: Global,
     list: &[Constraint],
     decisions: &[Decision],

@@ -1,13 +1,11 @@
-ghost use Rattle.std.specs.Prelude.{◌≡◌, ◌≤◌, length, map, All, IfOk, IfErr};
-ghost use Rattle.decl_base.specs.Limits.{greatest_state_limit, standard};
-ghost use Rattle.template_core.specs.Constraints.{IsWellMadeFor};
+ghost use Rattle.std.specs.Prelude.{◌≡◌, length, map, IfOk, IfErr};
 ghost use Rattle.reduce_model.specs.Deciding.{is_left};
-ghost use Rattle.reduce_model.specs.Passes.{before_second_pass, AreClosedPast, AreKeptPrefixes, IsSecondPassedTo};
+ghost use Rattle.reduce_model.specs.Passes.{before_second_pass, AreClosedPast, AreKeptPrefixes, IsAsked, IsSecondPassedTo};
 
 use crate::Decision;
-use crate::grown::{Sought, seek};
-use crate::prefixes::{Prefix, longest_before};
-use crate::second_pass::others_from;
+use crate::grown::Sought;
+use crate::prefixes::Prefix;
+use crate::second_pass::test_at;
 use decl_base::Refusal;
 use std::alloc::Global;
 use template_core::Constraint;
@@ -23,10 +21,8 @@ pub(crate) fn pass_second_within(
     wide: usize,
     decisions: &mut [Decision],
 ) -> Result<(), Refusal>
-    requires made { All (IsWellMadeFor symbols) list.now }
+    requires asked { IsAsked symbols states list.now }
     requires as_many { length decisions.old ≡ length list.now }
-    requires few { length list.now ≤ standard.candidates }
-    requires few_states { states ≤ greatest_state_limit }
     requires kept { AreKeptPrefixes symbols states list.now (map is_left decisions.old) prefixes.now }
     requires closed { AreClosedPast symbols states list.now (map is_left decisions.old) wide }
     requires passed { map before_second_pass decisions.old ≡ decisions.old }
@@ -37,17 +33,16 @@ pub(crate) fn pass_second_within(
     while place > 0 {
         place -= 1;
         if decisions[place].is_kept() {
-            if place > wide {
-                decisions[place] = Decision::Untested;
+            let decision = if place > wide {
+                Decision::Untested
             } else {
-                let start = &prefixes[longest_before(prefixes, place)];
-                let others = others_from(alloc, list, decisions, start.place, place)?;
-                match seek(alloc, start, &others, &list[place], symbols, states)? {
-                    Sought::Found(_) => {}
-                    Sought::Missing => decisions[place] = Decision::SecondPass,
-                    Sought::TooWide(_) => decisions[place] = Decision::Untested,
+                match test_at(alloc, list, symbols, states, prefixes, decisions, place)? {
+                    Sought::Found(_witness) => Decision::Kept,
+                    Sought::Missing => Decision::SecondPass,
+                    Sought::TooWide(_) => Decision::Untested,
                 }
-            }
+            };
+            decisions[place] = decision;
         }
     }
     Ok(())

@@ -1,19 +1,16 @@
-ghost use Rattle.std.specs.Prelude.{◌≡◌, ◌≤◌, [], length, map, All, IfOk, IfErr};
+ghost use Rattle.std.specs.Prelude.{◌≡◌, ◌≤◌, [], length, All, IfOk, IfErr};
 ghost use Rattle.decl_base.specs.Limits.{greatest_state_limit, standard};
 ghost use Rattle.template_core.specs.Constraints.{IsWellMadeFor};
-ghost use Rattle.reduce_model.specs.Deciding.{is_left};
-ghost use Rattle.reduce_model.specs.Passes.{before_second_pass, AreClosedPast, AreKeptPrefixes, IsDroppedWithin, IsTestedTo};
+ghost use Rattle.reduce_model.specs.Passes.{IsAsked, IsDroppedWithin};
 ghost use Rattle.reduce_model.specs.Within.{IsReductionWithin, IsSiftWithin, IsSiftedWithin};
 
-use crate::first_within::pass_first_within;
-use crate::kept::{Joined, KeptList};
-use crate::prefixes::Prefix;
+use crate::first_within::{FirstPassed, pass_first_within};
+use crate::kept::KeptList;
 use crate::pruning::prune;
 use crate::second_within::pass_second_within;
 use crate::witnesses_within::{Witnessed, witnesses_within};
 use crate::{Decision, Reduced, Sifted};
-use decl_base::{Refusal, Trace};
-use dfa_core::Dfa;
+use decl_base::Refusal;
 use std::alloc::Global;
 use template_core::Constraint;
 
@@ -32,32 +29,14 @@ pub fn sift_within(
     ensures ok { IfOk result (IsSiftWithin symbols states list.now) }
     ensures err { IfErr result (λ e. e ≡ Refusal.Memory) }
 {
-    let mut kept = KeptList {
-        dfa: Dfa::everything(alloc, symbols)?,
-        length: 0,
-        example: Trace::of(alloc, &[])?,
-    };
+    let mut kept = KeptList::empty(alloc, symbols)?;
     let mut decisions = Vec::new(alloc);
     let mut last = 1;
     for candidate in list {
-        match kept.joined(alloc, candidate, states, &mut last)? {
-            Joined::Implied => {
-                kept.length += 1;
-                decisions.push(Decision::Kept)?;
-            }
-            Joined::Joins(joined) => {
-                kept = joined;
-                decisions.push(Decision::Kept)?;
-            }
-            Joined::Wide => decisions.push(Decision::Beyond)?,
-            Joined::Conflicts => decisions.push(Decision::Conflict)?,
-        }
+        let decision = kept.take_in(alloc, candidate, states, &mut last)?;
+        decisions.push(decision)?;
     }
-    let KeptList {
-        dfa: _,
-        length: _,
-        example,
-    } = kept;
+    let KeptList { example, .. } = kept;
     Ok(Sifted { decisions, example })
 }
 
@@ -100,48 +79,17 @@ fn drop_within(
     states: u64,
     decisions: &mut [Decision],
 ) -> Result<Witnessed, Refusal>
-    requires made { All (IsWellMadeFor symbols) list.now }
-    requires few { length list.now ≤ standard.candidates }
-    requires some_states { 1 ≤ states }
-    requires few_states { states ≤ greatest_state_limit }
+    requires asked { IsAsked symbols states list.now }
     requires sifted { IsSiftedWithin symbols states [] list.now decisions.old }
     ensures ok { IfOk result (λ witnessed. IsDroppedWithin symbols states list.now decisions.old witnessed) }
     ensures err { IfErr result (λ e. e ≡ Refusal.Memory) }
 {
     prune(list, decisions);
-    let mut passed = pass_first_within(alloc, list, symbols, states, decisions)?;
-    test_within(
-        alloc,
-        list,
-        symbols,
-        states,
-        &passed.prefixes,
-        passed.wide,
-        &mut passed.decisions,
-    )
-}
-
-/// Goes on after the first pass.
-fn test_within(
-    alloc: Global,
-    list: &[Constraint],
-    symbols: u32,
-    states: u64,
-    prefixes: &[Prefix],
-    wide: usize,
-    decisions: &mut [Decision],
-) -> Result<Witnessed, Refusal>
-    requires made { All (IsWellMadeFor symbols) list.now }
-    requires as_many { length decisions.old ≡ length list.now }
-    requires few { length list.now ≤ standard.candidates }
-    requires some_states { 1 ≤ states }
-    requires few_states { states ≤ greatest_state_limit }
-    requires kept { AreKeptPrefixes symbols states list.now (map is_left decisions.old) prefixes.now }
-    requires closed { AreClosedPast symbols states list.now (map is_left decisions.old) wide }
-    requires passed { map before_second_pass decisions.old ≡ decisions.old }
-    ensures ok { IfOk result (λ witnessed. IsTestedTo symbols states list.now decisions.old witnessed) }
-    ensures err { IfErr result (λ e. e ≡ Refusal.Memory) }
-{
-    pass_second_within(alloc, list, symbols, states, prefixes, wide, decisions)?;
-    witnesses_within(alloc, list, symbols, states, decisions)
+    let FirstPassed {
+        decisions: mut tested,
+        prefixes,
+        wide,
+    } = pass_first_within(alloc, list, symbols, states, decisions)?;
+    pass_second_within(alloc, list, symbols, states, &prefixes, wide, &mut tested)?;
+    witnesses_within(alloc, list, symbols, states, &tested)
 }

@@ -1,12 +1,10 @@
-ghost use Rattle.std.specs.Prelude.{◌≡◌, ◌≤◌, [], length, take, All, IfOk, IfErr};
-ghost use Rattle.decl_base.specs.Limits.{greatest_state_limit, standard};
-ghost use Rattle.template_core.specs.Constraints.{IsWellMadeFor};
-ghost use Rattle.reduce_model.specs.Passes.{AreFirstWitnesses, IsIrredundant, IsStart, IsWitnessed, RefusesWitnesses};
+ghost use Rattle.std.specs.Prelude.{◌<◌, ◌≤◌, [], length, take, IfOk, IfErr};
+ghost use Rattle.reduce_model.specs.Passes.{AreFirstWitnesses, AreMoreWitnesses, IsAsked, IsIrredundant, IsStart, IsWitnessed, RefusesWitness, RefusesWitnesses};
 
 use crate::grown::{Sought, seek};
 use crate::prefixes::Prefix;
 use decl_base::{Refusal, Trace};
-use list_dfa::{extended, or_start};
+use list_dfa::or_start;
 use std::alloc::Global;
 use template_core::Constraint;
 
@@ -20,9 +18,7 @@ pub(crate) fn witnesses_of(
     start: &Prefix,
     known: Vec<Trace>,
 ) -> Result<Vec<Trace>, Refusal>
-    requires made { All (IsWellMadeFor symbols) model.now }
-    requires few { length model.now ≤ standard.candidates }
-    requires few_states { states ≤ greatest_state_limit }
+    requires asked { IsAsked symbols states model.now }
     requires irredundant { IsIrredundant symbols model.now }
     requires known { AreFirstWitnesses symbols states [] model.now known.items }
     requires start { IsStart symbols states (take start.now.length model.now) start.now }
@@ -39,33 +35,41 @@ pub(crate) fn witnesses_of(
     for place in start.length as usize..model.len() {
         let before = or_start(&grown, start);
         let built = before.length + 1;
-        let constraint = &model[place];
-        if witnesses.len() == place {
-            match seek(
-                alloc,
-                before,
-                &model[place + 1..],
-                constraint,
-                symbols,
-                states,
-            )? {
-                Sought::Found(witness) => witnesses.push(witness)?,
-                Sought::Missing => unreachable!(),
-                Sought::TooWide(built) => return Err(Refusal::States { phase: 4, built }),
-            }
-        }
+        put_witness(alloc, model, symbols, states, before, place, &mut witnesses)?;
         if place + 1 < model.len() {
-            match extended(alloc, &before.dfa, constraint, states, &mut last)? {
-                Some(dfa) => {
-                    grown = Some(Prefix {
-                        dfa,
-                        place: place + 1,
-                        length: built,
-                    })
-                }
+            match before.longer(alloc, &model[place], states, &mut last)? {
+                Some(more) => grown = Some(more),
                 None => return Err(Refusal::States { phase: 4, built }),
             }
         }
     }
     Ok(witnesses)
+}
+
+/// Puts the witness of the constraint at a place behind the others, where they are as many as the constraints before it.
+fn put_witness(
+    alloc: Global,
+    model: &[Constraint],
+    symbols: u32,
+    states: u64,
+    before: &Prefix,
+    place: usize,
+    witnesses: &mut Vec<Trace>,
+) -> Result<(), Refusal>
+    requires asked { IsAsked symbols states model.now }
+    requires irredundant { IsIrredundant symbols model.now }
+    requires there { place < length model.now }
+    requires start { IsStart symbols states (take place model.now) before.now }
+    ensures ok { IfOk result (λ done. AreMoreWitnesses symbols states model.now place witnesses.old.items witnesses.new.items) }
+    ensures err { IfErr result (RefusesWitness symbols states model.now place) }
+{
+    if witnesses.len() == place {
+        let after = &model[place + 1..];
+        match seek(alloc, before, after, &model[place], symbols, states)? {
+            Sought::Found(witness) => witnesses.push(witness)?,
+            Sought::Missing => unreachable!(),
+            Sought::TooWide(built) => return Err(Refusal::States { phase: 4, built }),
+        }
+    }
+    Ok(())
 }

@@ -1,15 +1,13 @@
 ghost use Rattle.std.specs.Prelude.{◌≡◌, ◌+◌, ◌<◌, ◌≤◌, ◌^◌, [], length, All, IfOk, IfErr};
 ghost use Rattle.decl_base.specs.Limits.{greatest_state_limit, standard};
 ghost use Rattle.template_core.specs.Constraints.{IsWellMade, IsWellMadeFor};
-ghost use Rattle.reduce_model.specs.Passes.{IsBreakable, IsFoundOf, IsNext, IsSmall, IsTestedWithin, IsWitnessedWithin, length_of};
+ghost use Rattle.reduce_model.specs.Passes.{IsAsked, IsBreakable, IsFoundOf, IsNext, IsSmall, IsTestedWithin, IsWitnessedWithin, length_of};
 
 use crate::Decision;
 use crate::grown::{Sought, seek};
 use crate::others::push_kept;
 use crate::prefixes::Prefix;
 use decl_base::{Refusal, Trace};
-use dfa_core::Dfa;
-use list_dfa::extended;
 use std::alloc::Global;
 use template_core::Constraint;
 
@@ -29,20 +27,13 @@ pub(crate) fn witnesses_within(
     states: u64,
     decisions: &[Decision],
 ) -> Result<Witnessed, Refusal>
-    requires made { All (IsWellMadeFor symbols) list.now }
+    requires asked { IsAsked symbols states list.now }
     requires as_many { length decisions.now ≡ length list.now }
-    requires few { length list.now ≤ standard.candidates }
-    requires some_states { 1 ≤ states }
-    requires few_states { states ≤ greatest_state_limit }
     requires tested { IsTestedWithin symbols states [] list.now decisions.now }
     ensures ok { IfOk result (IsWitnessedWithin symbols states list.now decisions.now) }
     ensures err { IfErr result (λ e. e ≡ Refusal.Memory) }
 {
-    let mut before = Some(Prefix {
-        dfa: Dfa::everything(alloc, symbols)?,
-        place: 0,
-        length: 0,
-    });
+    let mut before = Some(Prefix::empty(alloc, symbols)?);
     let mut last = 1;
     let mut told = Vec::new(alloc);
     let mut witnesses = Vec::new(alloc);
@@ -109,15 +100,8 @@ fn with_next(
     ensures ok { IfOk result (IsNext states before constraint.now) }
     ensures err { IfErr result (λ e. e ≡ Refusal.Memory) }
 {
-    let Some(start) = before else {
-        return Ok(None);
-    };
-    match extended(alloc, &start.dfa, constraint, states, last)? {
-        Some(dfa) => Ok(Some(Prefix {
-            dfa,
-            place: start.place,
-            length: start.length + 1,
-        })),
+    match before {
+        Some(start) => start.longer(alloc, constraint, states, last),
         None => Ok(None),
     }
 }

@@ -9,67 +9,58 @@ use Rattle.reduce_model.proofs.first_pass.pass_first.Goals.{then-is_kept+in_ok-t
 
 pub loop-place-init : goal.loop-place-init
 loop-place-init c = record {
-  passing = passing-none c.args.symbols c.args.states c.args.list.now c.args.decisions.now c.in_ok-left.left 0 c.requires.as_many c.requires.some_states c.requires.pruned c.in_ok-left.ensures.ok refl;
-  kept = kept-first c.args.symbols c.args.states c.args.list.now (map is_left c.args.decisions.now) c.new-prefixes.result.items c.push.new.self.items _ c.new-prefixes.ensures.items c.in_ok-push.ensures.items c.requires.some_states
-      c.in_ok-everything.ensures.ok refl refl;
+  passing = passing-none c.args.symbols c.args.states c.args.list.now c.args.decisions.now c.in_ok-left.left 0 c.requires.as_many c.requires.asked.some_states c.requires.pruned c.in_ok-left.ensures.ok refl;
+  kept = kept-first c.args.symbols c.args.states c.args.list.now (map is_left c.args.decisions.now) c.in_ok-prefixes.prefixes.items c.requires.asked.some_states c.in_ok-prefixes.ensures.ok;
 }
 
-pub overflow_add-length : goal.overflow_add-length
-overflow_add-length c =
-    let le = passing-size c.args.symbols c.args.states c.args.list.now c.args.decisions.now c.loop-place.decisions c.loop-place.place c.loop-place.left c.loop-place.length c.loop-place.invariant.passing in
-    omega (arith, le, c.requires.few)
-
-pub overflow_add-result : goal.overflow_add-result
-overflow_add-result c =
-    let le = passing-size c.args.symbols c.args.states c.args.list.now c.args.decisions.now c.loop-place.decisions c.loop-place.place c.loop-place.left c.loop-place.length c.loop-place.invariant.passing in
-    omega (arith, le, c.requires.few)
+pub overflow_add-built : goal.overflow_add-built
+overflow_add-built c = let le = passing-size c.loop-place.invariant.passing in omega (arith, le, c.requires.asked.few)
 
 pub returns-in-TooWide-clause-err : goal.returns-in-TooWide-clause-err
 returns-in-TooWide-clause-err c = λ es many strong told.
     let tried = rw c.in-TooWide.is at c.in_ok-try_candidate.ensures.ok in
-    passing-refused c.args.symbols c.args.states c.args.list.now c.args.decisions.now c.loop-place.decisions c.loop-place.place c.loop-place.left c.loop-place.length c.loop-place-test.true c.loop-place.invariant.passing
-    (sym c.is_kept.ensures ∙ c.if-is_kept.true) es many strong told tried.1 tried.0
+    passing-refused c.loop-place-test.true c.loop-place.invariant.passing (sym c.is_kept.ensures ∙ c.if-is_kept.true) es many strong told tried.1 tried.0
 
 pub loop-place-preserved : goal.loop-place-preserved
-loop-place-preserved c = elim c.if-is_kept.branch [
-  | then-is_kept+in_ok-try_candidate+in-Implied w ↦
-      let new = passing-implied c.args.symbols c.args.states c.args.list.now c.args.decisions.now c.loop-place.decisions c.loop-place.place c.loop-place.left c.loop-place.length c.loop-place-test.true c.loop-place.invariant.passing
-      (sym c.is_kept.ensures ∙ w.if-is_kept.true) (rw w.in-Implied.is at w.in_ok-try_candidate.ensures.ok) in
-      rw (w.decisions-is, w.left-is, w.length-is, w.prefixes-is) (record {
-        passing = new;
-        kept = kept-later c.args.symbols c.args.states c.args.list.now (map is_left c.loop-place.decisions) (map is_left (set c.loop-place.decisions c.loop-place.place FirstPass)) c.loop-place.place c.loop-place.prefixes.items
-            (marked-later c.loop-place.decisions c.loop-place.place FirstPass) c.loop-place.invariant.kept;
-      })
-  | then-is_kept+in_ok-try_candidate+in-Left+in_ok-keep-in-Left w ↦
-      let tried = rw w.in-Left.is at w.in_ok-try_candidate.ensures.ok in
-      let new = passing-left c.args.symbols c.args.states c.args.list.now c.args.decisions.now c.loop-place.decisions c.loop-place.place c.loop-place.left c.loop-place.length c.loop-place-test.true c.loop-place.invariant.passing
-      (sym c.is_kept.ensures ∙ w.if-is_kept.true) w.in-Left.more c.requires.few_states tried.0 tried.1 in
-      let prefix : Prefix = record {
-        dfa = c.loop-place.left;
-        place = c.loop-place.place;
-        length = c.loop-place.length;
-      } in
-      let marks = map is_left c.loop-place.decisions in
-      let inside = c.loop-place-test.true in
-      let is = passing-prefix c.args.symbols c.args.states c.args.list.now c.args.decisions.now c.loop-place.decisions prefix (omega (arith, inside)) c.loop-place.invariant.passing in
-      rw (w.decisions-is, w.left-is, w.length-is, w.prefixes-is) (record {
-        passing = new;
-        kept = kept-later c.args.symbols c.args.states c.args.list.now marks marks c.loop-place.place w.keep.new.prefixes.items (λ place le. refl)
-            (kept-more c.args.symbols c.args.states c.args.list.now marks c.loop-place.place c.loop-place.prefixes.items w.keep.new.prefixes.items prefix w.in_ok-keep-in-Left.ensures is c.loop-place.invariant.kept);
-      })
-  | else-is_kept w ↦
-      let new = passing-on c.args.symbols c.args.states c.args.list.now c.args.decisions.now c.loop-place.decisions c.loop-place.place c.loop-place.left c.loop-place.length c.loop-place-test.true c.loop-place.invariant.passing
-      (sym c.is_kept.ensures ∙ w.if-is_kept.false) in
-      rw (w.decisions-is, w.left-is, w.length-is, w.prefixes-is) (record {
-        passing = new;
-        kept = kept-later c.args.symbols c.args.states c.args.list.now (map is_left c.loop-place.decisions) (map is_left c.loop-place.decisions) c.loop-place.place c.loop-place.prefixes.items (λ place le. refl)
-            c.loop-place.invariant.kept;
-      })
-]
+loop-place-preserved c =
+    let n = c.args.symbols in
+    let s = c.args.states in
+    let list = c.args.list.now in
+    let at = c.loop-place.place in
+    let inside = c.loop-place-test.true in
+    let marks = map is_left c.loop-place.decisions in
+    let h = c.loop-place.invariant in
+    elim c.if-is_kept.branch [
+      | then-is_kept+in_ok-try_candidate+in-Implied w ↦
+          let new = passing-implied inside h.passing (sym c.is_kept.ensures ∙ w.if-is_kept.true) (rw w.in-Implied.is at w.in_ok-try_candidate.ensures.ok) in
+          rw (w.decisions-is, w.left-is, w.length-is, w.prefixes-is) (record {
+            passing = new;
+            kept = kept-later n s list marks (map is_left (set c.loop-place.decisions at FirstPass)) at c.loop-place.prefixes.items (marked-later c.loop-place.decisions at FirstPass) h.kept;
+          })
+      | then-is_kept+in_ok-try_candidate+in-Left+in_ok-keep-in-Left w ↦
+          let tried = rw w.in-Left.is at w.in_ok-try_candidate.ensures.ok in
+          let new = passing-left inside h.passing (sym c.is_kept.ensures ∙ w.if-is_kept.true) w.in-Left.more c.requires.asked.few_states tried.0 tried.1 in
+          let prefix : Prefix = record {
+            dfa = c.loop-place.left;
+            place = at;
+            length = c.loop-place.length;
+          } in
+          let is = passing-prefix prefix (omega (arith, inside)) h.passing in
+          rw (w.decisions-is, w.left-is, w.length-is, w.prefixes-is) (record {
+            passing = new;
+            kept = kept-later n s list marks marks at w.keep.new.prefixes.items (λ place le. refl)
+                (kept-more n s list marks at c.loop-place.prefixes.items w.keep.new.prefixes.items prefix w.in_ok-keep-in-Left.ensures is h.kept);
+          })
+      | else-is_kept w ↦
+          let new = passing-on inside h.passing (sym c.is_kept.ensures ∙ w.if-is_kept.false) in
+          rw (w.decisions-is, w.left-is, w.length-is, w.prefixes-is) (record {
+            passing = new;
+            kept = kept-later n s list marks marks at c.loop-place.prefixes.items (λ place le. refl) h.kept;
+          })
+    ]
 
 pub returns-clause-ok : goal.returns-clause-ok
-returns-clause-ok c =
-    passing-all c.args.symbols c.args.states c.args.list.now c.args.decisions.now c.loop-place.decisions c.loop-place.place c.loop-place.left c.loop-place.length c.loop-place-test.false c.loop-place.invariant.passing
+returns-clause-ok c = passing-all c.loop-place-test.false c.loop-place.invariant.passing
 
 pub returns-clause-kept : goal.returns-clause-kept
 returns-clause-kept c =

@@ -18,8 +18,4 @@ returns-in-All-clause-ok c =
     )
 
 pub returns-clause-ok : goal.returns-clause-ok
-returns-clause-ok c = record {
-  count = c.in-Wide.count;
-  counted = refl;
-  from = rw c.in-Wide.is at c.in_ok-grown.ensures.ok;
-}
+returns-clause-ok c = (c.in-Wide.count, refl, rw c.in-Wide.is at c.in_ok-grown.ensures.ok)

@@ -1,4 +1,4 @@
-use Rattle.std.proofs.Common.{◌≡◌, ◌+◌, ◌≤◌, [], map, drop, get_or, length, refl, sym, ap, ◌∙◌, inl, inr, true, arith}
+use Rattle.std.proofs.Common.{◌≡◌, ◌+◌, map, drop, get_or, refl, sym, ◌∙◌, inl, inr, true, arith}
 use Rattle.std.proofs.lemmas.List.{take_rest}
 use Rattle.std.proofs.lemmas.List.Elements.{All-drop}
 use Rattle.template_core.specs.Constraints.{IsWellMadeFor}
@@ -11,17 +11,14 @@ use Rattle.reduce_model.proofs.witnesses_within.witnesses_within.Goals.{in-Kept+
 
 pub loop-place-init : goal.loop-place-init
 loop-place-init c =
-    witnessing-none c.args.symbols c.args.states c.args.list.now c.args.decisions.now c.new-told.result.items (record {
-      dfa = c.in_ok-everything.field-0;
-      place = 0;
-      length = 0;
-    }) c.new-witnesses.result.items c.requires.some_states c.requires.tested c.new-told.ensures.items c.new-witnesses.ensures.items c.in_ok-everything.ensures.ok refl
+    witnessing-none c.args.symbols c.args.states c.args.list.now c.args.decisions.now c.new-told.result.items c.in_ok-empty.field-0 c.new-witnesses.result.items c.requires.asked.some_states c.requires.tested
+    c.new-told.ensures.items c.new-witnesses.ensures.items c.in_ok-empty.ensures.ok
 
 pub witness_of-requires-clause-made : goal.witness_of-requires-clause-made
 witness_of-requires-clause-made c =
     let list = c.args.list.now in
     let at = c.loop-place.place in
-    let made = all-marked (IsWellMadeFor c.args.symbols) (map is_kept (drop (at + 1) c.args.decisions.now)) (drop (at + 1) list) (All-drop (IsWellMadeFor c.args.symbols) (at + 1) list c.requires.made) in
+    let made = all-marked (IsWellMadeFor c.args.symbols) (map is_kept (drop (at + 1) c.args.decisions.now)) (drop (at + 1) list) (All-drop (IsWellMadeFor c.args.symbols) (at + 1) list c.requires.asked.made) in
     rw (c.deref.ensures.value, c.in_ok-push_kept.ensures, c.new-after.ensures.items, take_rest list (at + 1), take_rest c.args.decisions.now (at + 1)) made
 
 pub witness_of-requires-clause-few : goal.witness_of-requires-clause-few
@@ -33,7 +30,7 @@ witness_of-requires-clause-short c =
     let old = c.args.decisions.now in
     let at = c.loop-place.place in
     let short = step-short c.args.symbols c.args.states list old c.loop-place.told.items at c.loop-place.before c.loop-place.witnesses.items c.loop-place-test.true c.requires.as_many c.loop-place.invariant in
-    rw (c.deref.ensures.value, c.in_ok-push_kept.ensures, c.new-after.ensures.items, take_rest list (at + 1), take_rest old (at + 1)) (omega (arith, short, c.requires.few))
+    rw (c.deref.ensures.value, c.in_ok-push_kept.ensures, c.new-after.ensures.items, take_rest list (at + 1), take_rest old (at + 1)) (omega (arith, short, c.requires.asked.few))
 
 pub witness_of-requires-clause-breakable : goal.witness_of-requires-clause-breakable
 witness_of-requires-clause-breakable c =
@@ -50,7 +47,7 @@ pub with_next-requires-clause-room : goal.with_next-requires-clause-room
 with_next-requires-clause-room c =
     let short = start-length c.args.symbols c.args.states c.loop-place.invariant.kept c.loop-place.before c.loop-place.invariant.start in
     let few = c.loop-place.invariant.few in
-    omega (arith, short, few, c.loop-place-test.true, c.requires.few)
+    omega (arith, short, few, c.loop-place-test.true, c.requires.asked.few)
 
 pub loop-place-preserved : goal.loop-place-preserved
 loop-place-preserved c =
@@ -74,7 +71,7 @@ loop-place-preserved c =
                 elim c.if-is_kept.branch [
                   | then-is_kept+in_ok-before u ↦
                       rw (c.in_ok-push.ensures.items, w.decision-is, v.decision-is, is, w.witnesses-is, v.witnesses-is, v.in_ok-push-in-Some.ensures.items, u.before-is)
-                      (step-found n s list old new at before ws inside many h is v.in-Some.witness _ c.requires.few_states found u.in_ok-before.ensures.ok)
+                      (step-found n s list old new at before ws inside many h is v.in-Some.witness _ c.requires.asked.few_states found u.in_ok-before.ensures.ok)
                   | else-is_kept u ↦
                       let kept : is_kept c.match-decision.decision ≡ true = rw (w.decision-is, v.decision-is, is) refl in
                       let lacks = sym c.is_kept.ensures ∙ u.if-is_kept.false in
@@ -85,7 +82,7 @@ loop-place-preserved c =
                 elim c.if-is_kept.branch [
                   | then-is_kept+in_ok-before u ↦
                       rw (c.in_ok-push.ensures.items, w.decision-is, v.decision-is, w.witnesses-is, v.witnesses-is, u.before-is)
-                      (step-untested n s list old new at before ws inside many h is _ c.requires.few_states found u.in_ok-before.ensures.ok)
+                      (step-untested n s list old new at before ws inside many h is _ c.requires.asked.few_states found u.in_ok-before.ensures.ok)
                   | else-is_kept u ↦
                       let kept : is_kept c.match-decision.decision ≡ true = rw (w.decision-is, v.decision-is) refl in
                       let lacks = sym c.is_kept.ensures ∙ u.if-is_kept.false in
@@ -98,7 +95,7 @@ loop-place-preserved c =
             elim (kept-or-untested (get_or old at Kept) kept) [
               | inl is ↦ absurd (w.in_default.not-Kept is)
               | inr is ↦
-                  rw (c.in_ok-push.ensures.items, w.decision-is, is, w.witnesses-is, u.before-is) (step-closed n s list old new at before ws inside many h is _ c.requires.few_states u.in_ok-before.ensures.ok)
+                  rw (c.in_ok-push.ensures.items, w.decision-is, is, w.witnesses-is, u.before-is) (step-closed n s list old new at before ws inside many h is _ c.requires.asked.few_states u.in_ok-before.ensures.ok)
             ]
         | else-is_kept u ↦
             let lacks = rw w.decision-is at (sym c.is_kept.ensures ∙ u.if-is_kept.false) in

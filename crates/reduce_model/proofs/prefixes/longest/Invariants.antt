@@ -1,5 +1,5 @@
 use Rattle.std.proofs.Common.{◌<◌, length}
-use Rattle.reduce_model.proofs.prefixes.longest_before.Given as goal
+use Rattle.reduce_model.proofs.prefixes.longest.Given as goal
 
 abbrev pub invariant-loop-last : goal.invariant-loop-last
 invariant-loop-last l = l.last < length l.prefixes

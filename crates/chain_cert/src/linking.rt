@@ -15,184 +15,132 @@ use crate::forms::has;
 use crate::tables::table_for;
 use template_core::{Constraint, Table, class_of};
 
-/// Whether the triples of a link hold the starts.
-fn holds_start(table: &Table, link: &Link) -> bool
-    ensures { IsTrue result ↔ Holds link.now.pairs (0 ∷ table.now.start ∷ 0 ∷ []) }
-{
-    has(link.pairs(), &[0, table.start as u32, 0])
+/// A link in its chain: its triples are over the states of the automaton before its place, of a table and of its own.
+#[derive(Drop)]
+struct Relation<'a> {
+    links: &'a [Link],
+    place: usize,
+    constraint: &'a Constraint,
+    table: &'a Table,
+    link: &'a Link,
+    symbols: u32,
+    ghost there: { place ≤ length links.now },
+    ghost table_is: { IsTable table.now },
+    ghost columns: { All (λ link. length link.columns ≡ symbols) links.now },
+    ghost column: { length link.now.columns ≡ symbols },
+    ghost left_below: { All (λ triple. left triple < state_count (before links.now place)) link.now.pairs },
+    ghost middle_below: { All (λ triple. middle triple < table.now.states) link.now.pairs },
 }
 
-/// Whether a link accepts wherever the automaton before a place and a table do.
-fn accepts_where_both(links: &[Link], place: usize, table: &Table, link: &Link) -> bool
-    requires there { place ≤ length links.now }
-    requires table { IsTable table.now }
-    requires left { All (λ triple. left triple < state_count (before links.now place)) link.now.pairs }
-    requires middle { All (λ triple. middle triple < table.now.states) link.now.pairs }
-    ensures { IsTrue result ↔ All (λ triple. is_accepting (before links.now place) (left triple) ≡ true
-        → accepts_at table.now (middle triple) ≡ true → is_accepting link.now (right triple) ≡ true) link.now.pairs }
-{
-    for triple in link.pairs() {
-        if accepts_before(links, place, triple[0])
-            && table.accepts_at(triple[1] as u8)
-            && !link.is_accepting(triple[2])
-        {
-            return false;
-        }
+impl Relation<'_> {
+    /// Whether the triples hold the starts.
+    fn holds_start(&self) -> bool
+        ensures { IsTrue result ↔ Holds self.now.link.now.pairs (0 ∷ self.now.table.now.start ∷ 0 ∷ []) }
+    {
+        has(self.link.pairs(), &[0, self.table.start as u32, 0])
     }
-    true
-}
 
-/// Whether the triples of a link hold one stepped by the symbol.
-fn holds_stepped(
-    links: &[Link],
-    place: usize,
-    constraint: &Constraint,
-    table: &Table,
-    link: &Link,
-    symbol: u32,
-    triple: &[u32; 3],
-) -> bool
-    requires there { place ≤ length links.now }
-    requires table { IsTable table.now }
-    requires columns { All (λ link. symbol < length link.columns) links.now }
-    requires column { symbol < length link.now.columns }
-    requires left { left triple.now < state_count (before links.now place) }
-    requires middle { middle triple.now < table.now.states }
-    requires right { right triple.now < state_count link.now }
-    ensures { IsTrue result ↔ Holds link.now.pairs (step_triple (before links.now place) table.now constraint.now link.now symbol triple.now) }
-{
-    let stepped = [
-        step_before(links, place, triple[0], symbol),
-        table.step(triple[1] as u8, class_of(constraint, symbol)) as u32,
-        link.step(triple[2], symbol),
-    ];
-    has(link.pairs(), &stepped)
-}
-
-/// Whether the triples of a link hold each of them stepped by the symbol.
-fn is_closed_by(
-    links: &[Link],
-    place: usize,
-    constraint: &Constraint,
-    table: &Table,
-    link: &Link,
-    symbol: u32,
-) -> bool
-    requires there { place ≤ length links.now }
-    requires table { IsTable table.now }
-    requires columns { All (λ link. symbol < length link.columns) links.now }
-    requires column { symbol < length link.now.columns }
-    requires left { All (λ triple. left triple < state_count (before links.now place)) link.now.pairs }
-    requires middle { All (λ triple. middle triple < table.now.states) link.now.pairs }
-    ensures { IsTrue result ↔ IsClosedUnder (before links.now place) constraint.now table.now link.now symbol }
-{
-    for triple in link.pairs() {
-        if !holds_stepped(links, place, constraint, table, link, symbol, triple) {
-            return false;
+    /// Whether the link accepts wherever the automaton before it and the table do.
+    fn accepts_where_both(&self) -> bool
+        ensures { IsTrue result ↔ All (λ triple. is_accepting (before self.now.links.now self.now.place) (left triple) ≡ true
+            → accepts_at self.now.table.now (middle triple) ≡ true → is_accepting self.now.link.now (right triple) ≡ true) self.now.link.now.pairs }
+    {
+        for triple in self.link.pairs() {
+            if accepts_before(self.links, self.place, triple[0])
+                && self.table.accepts_at(triple[1] as u8)
+                && !self.link.is_accepting(triple[2])
+            {
+                return false;
+            }
         }
+        true
     }
-    true
-}
 
-/// Whether an earlier symbol steps alike in the automaton before a place, in the table and in a link.
-fn has_earlier(
-    links: &[Link],
-    place: usize,
-    constraint: &Constraint,
-    link: &Link,
-    symbol: u32,
-) -> bool
-    requires there { place ≤ length links.now }
-    requires columns { All (λ link. symbol < length link.columns) links.now }
-    requires column { symbol < length link.now.columns }
-    ensures { OnTrue result (HasEarlier (before links.now place) constraint.now link.now symbol) }
-{
-    let class = class_of(constraint, symbol);
-    for earlier in 0..symbol {
-        if class_of(constraint, earlier) == class
-            && link.same_column(earlier, symbol)
-            && same_before(links, place, earlier, symbol)
-        {
+    /// Whether the triples hold one stepped by the symbol.
+    fn holds_stepped(&self, symbol: u32, triple: &[u32; 3]) -> bool
+        requires symbol { symbol < self.now.symbols }
+        requires left { left triple.now < state_count (before self.now.links.now self.now.place) }
+        requires middle { middle triple.now < self.now.table.now.states }
+        requires right { right triple.now < state_count self.now.link.now }
+        ensures { IsTrue result ↔ Holds self.now.link.now.pairs
+            (step_triple (before self.now.links.now self.now.place) self.now.table.now self.now.constraint.now self.now.link.now symbol triple.now) }
+    {
+        let stepped = [
+            step_before(self.links, self.place, triple[0], symbol),
+            self.table
+                .step(triple[1] as u8, class_of(self.constraint, symbol)) as u32,
+            self.link.step(triple[2], symbol),
+        ];
+        has(self.link.pairs(), &stepped)
+    }
+
+    /// Whether the triples hold each of them stepped by the symbol.
+    fn is_closed_by(&self, symbol: u32) -> bool
+        requires { symbol < self.now.symbols }
+        ensures { IsTrue result ↔ IsClosedUnder (before self.now.links.now self.now.place) self.now.constraint.now self.now.table.now self.now.link.now symbol }
+    {
+        for triple in self.link.pairs() {
+            if !self.holds_stepped(symbol, triple) {
+                return false;
+            }
+        }
+        true
+    }
+
+    /// Whether an earlier symbol steps alike in the automaton before the link, in the table and in the link.
+    fn has_earlier(&self, symbol: u32) -> bool
+        requires { symbol < self.now.symbols }
+        ensures { OnTrue result (HasEarlier (before self.now.links.now self.now.place) self.now.constraint.now self.now.link.now symbol) }
+    {
+        let class = class_of(self.constraint, symbol);
+        for earlier in 0..symbol {
+            if class_of(self.constraint, earlier) == class
+                && self.link.same_column(earlier, symbol)
+                && same_before(self.links, self.place, earlier, symbol)
+            {
+                return true;
+            }
+        }
+        false
+    }
+
+    /// Whether the triples hold each of them stepped by the symbol, where they hold each of them stepped by an earlier one.
+    /// Symbols that step alike are looked at once, where looking for them is no more work than a look at the triples.
+    fn follows(&self, symbol: u32) -> bool
+        requires symbol { symbol < self.now.symbols }
+        requires earlier { (s : ℕ) → s < symbol
+            → IsClosedUnder (before self.now.links.now self.now.place) self.now.constraint.now self.now.table.now self.now.link.now s }
+        ensures { IsTrue result ↔ IsClosedUnder (before self.now.links.now self.now.place) self.now.constraint.now self.now.table.now self.now.link.now symbol }
+    {
+        let few = symbol as usize <= self.link.pairs().len();
+        if few && self.has_earlier(symbol) {
             return true;
         }
+        self.is_closed_by(symbol)
     }
-    false
-}
 
-/// Whether the triples of a link hold each of them stepped by the symbol, where they hold each of them stepped by an earlier one.
-/// Symbols that step alike are looked at once, where looking for them is no more work than a look at the triples.
-fn follows(
-    links: &[Link],
-    place: usize,
-    constraint: &Constraint,
-    table: &Table,
-    link: &Link,
-    symbol: u32,
-) -> bool
-    requires there { place ≤ length links.now }
-    requires table { IsTable table.now }
-    requires columns { All (λ link. symbol < length link.columns) links.now }
-    requires column { symbol < length link.now.columns }
-    requires left { All (λ triple. left triple < state_count (before links.now place)) link.now.pairs }
-    requires middle { All (λ triple. middle triple < table.now.states) link.now.pairs }
-    requires earlier { (s : ℕ) → s < symbol → IsClosedUnder (before links.now place) constraint.now table.now link.now s }
-    ensures { IsTrue result ↔ IsClosedUnder (before links.now place) constraint.now table.now link.now symbol }
-{
-    let few = symbol as usize <= link.pairs().len();
-    if few && has_earlier(links, place, constraint, link, symbol) {
-        return true;
-    }
-    is_closed_by(links, place, constraint, table, link, symbol)
-}
-
-/// Whether the triples of a link hold each of them stepped by each symbol.
-fn is_closed(
-    links: &[Link],
-    place: usize,
-    constraint: &Constraint,
-    table: &Table,
-    link: &Link,
-    symbols: u32,
-) -> bool
-    requires there { place ≤ length links.now }
-    requires table { IsTable table.now }
-    requires columns { All (λ link. length link.columns ≡ symbols) links.now }
-    requires column { length link.now.columns ≡ symbols }
-    requires left { All (λ triple. left triple < state_count (before links.now place)) link.now.pairs }
-    requires middle { All (λ triple. middle triple < table.now.states) link.now.pairs }
-    ensures { IsTrue result ↔ ((s : ℕ) → s < symbols → IsClosedUnder (before links.now place) constraint.now table.now link.now s) }
-{
-    for symbol in 0..symbols {
-        if !follows(links, place, constraint, table, link, symbol) {
-            return false;
+    /// Whether the triples hold each of them stepped by each symbol.
+    fn is_closed(&self) -> bool
+        ensures { IsTrue result ↔ ((s : ℕ) → s < self.now.symbols
+            → IsClosedUnder (before self.now.links.now self.now.place) self.now.constraint.now self.now.table.now self.now.link.now s) }
+    {
+        for symbol in 0..self.symbols {
+            if !self.follows(symbol) {
+                return false;
+            }
         }
+        true
     }
-    true
+
+    /// Whether the triples relate the automaton before the link and the table to it.
+    fn relates(&self) -> bool
+        ensures { IsTrue result ↔ Relates self.now.symbols (before self.now.links.now self.now.place) self.now.constraint.now self.now.table.now self.now.link.now }
+    {
+        self.holds_start() && self.accepts_where_both() && self.is_closed()
+    }
 }
 
-/// Whether the triples of a link relate the automaton before a place and a table to it.
-fn relates(
-    links: &[Link],
-    place: usize,
-    constraint: &Constraint,
-    table: &Table,
-    link: &Link,
-    symbols: u32,
-) -> bool
-    requires there { place ≤ length links.now }
-    requires table { IsTable table.now }
-    requires columns { All (λ link. length link.columns ≡ symbols) links.now }
-    requires column { length link.now.columns ≡ symbols }
-    requires left { All (λ triple. left triple < state_count (before links.now place)) link.now.pairs }
-    requires middle { All (λ triple. middle triple < table.now.states) link.now.pairs }
-    ensures { IsTrue result ↔ Relates symbols (before links.now place) constraint.now table.now link.now }
-{
-    holds_start(table, link)
-        && accepts_where_both(links, place, table, link)
-        && is_closed(links, place, constraint, table, link, symbols)
-}
-
-/// The same, with the table of the constraint's template.
+/// Whether the triples of a link relate the automaton before a place and the table of the constraint's template to it.
 fn is_related(
     links: &[Link],
     place: usize,
@@ -207,7 +155,15 @@ fn is_related(
     ensures { IsTrue result ↔ IsRelated symbols (before links.now place) constraint.now link.now }
 {
     let table = table_for(constraint);
-    relates(links, place, constraint, &table, link, symbols)
+    let relation = Relation {
+        links,
+        place,
+        constraint,
+        table: &table,
+        link,
+        symbols,
+    };
+    relation.relates()
 }
 
 /// The number of the first link that the automaton before it and its constraint don't lead to.

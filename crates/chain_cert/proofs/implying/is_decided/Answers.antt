@@ -1,12 +1,16 @@
 use Rattle.std.proofs.Common.{◌<◌, ℕ, List, All, sym, subst}
 use Rattle.chain_cert.proofs.Fits.{decided-by, pairs-middle}
 use Rattle.chain_cert.specs.Checks.{Decides}
-use Rattle.chain_cert.specs.Forms.{middle}
-use Rattle.chain_cert.specs.Links.{last}
+use Rattle.chain_cert.specs.Forms.{left, middle}
+use Rattle.chain_cert.specs.Links.{last, state_count}
 use Rattle.chain_cert.proofs.implying.is_decided.Goals as goal
 
-pub decides-requires-clause-middle : goal.decides-requires-clause-middle
-decides-requires-clause-middle c =
+pub invariant_of-decision-clause-left_below : goal.invariant_of-decision-clause-left_below
+invariant_of-decision-clause-left_below c =
+    subst (λ (l : List (List ℕ)). All (λ pair. left pair < state_count (last c.args.links.now)) l) (sym c.pairs.ensures.value) c.requires.fits.left_below
+
+pub invariant_of-decision-clause-middle_below : goal.invariant_of-decision-clause-middle_below
+invariant_of-decision-clause-middle_below c =
     let kind = c.args.dropped.now.constraint.kind in
     let is = c.table_for-table.ensures in
     subst (λ (l : List (List ℕ)). All (λ pair. middle pair < c.table_for-table.result.states) l) (sym c.pairs.ensures.value)

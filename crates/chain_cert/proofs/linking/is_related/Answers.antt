@@ -2,8 +2,8 @@ use Rattle.chain_cert.proofs.Fits.{link-middle, related-by}
 use Rattle.chain_cert.specs.Links.{before}
 use Rattle.chain_cert.proofs.linking.is_related.Goals as goal
 
-pub relates-requires-clause-middle : goal.relates-requires-clause-middle
-relates-requires-clause-middle c =
+pub invariant_of-relation-clause-middle_below : goal.invariant_of-relation-clause-middle_below
+invariant_of-relation-clause-middle_below c =
     let is = c.table_for-table.ensures in
     link-middle c.args.symbols (before c.args.links.now c.args.place) c.args.link.now c.args.constraint.now.kind c.table_for-table.result is c.requires.fits
 

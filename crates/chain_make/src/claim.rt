@@ -76,7 +76,7 @@ fn copied(alloc: Global, traces: &[Trace]) -> Result<Vec<Trace>, Refusal>
 
 /// The claim of a list of candidates and its reduction: the constraints that stay with their witnesses, those that don't, in order,
 /// each marked as a conflict exactly where it was left out as one, and the example.
-pub fn make_claim(
+pub(crate) fn make_claim(
     alloc: Global,
     list: &[Constraint],
     reduced: &Reduced,

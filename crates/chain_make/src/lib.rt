@@ -11,4 +11,3 @@ mod product;
 mod search;
 
 pub use chain::make_chain;
-pub use claim::make_claim;

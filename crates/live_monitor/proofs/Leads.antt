@@ -3,7 +3,7 @@ use Rattle.std.proofs.Common.{◌≡◌, ℕ, ◌+◌, ◌*◌, ◌<◌, ◌≤�
 use Rattle.std.proofs.Math.ListN.{set}
 use Rattle.std.proofs.Math.Nat.{mul-le-mul_right}
 use Rattle.std.proofs.lemmas.Bool.{cases_eq, cases_lt}
-use Rattle.std.proofs.lemmas.List.{get_or-append-add, get_or-set_other, get_or-set_same, get_or_append_left, get_or_push, length-append, length-map, length-set, length_push, map-append, take_more, take_all, drop_all, append-nil}
+use Rattle.std.proofs.lemmas.List.{get_or-append-add, get_or_read, get_or-set_other, get_or-set_same, get_or_append_left, get_or_push, length-append, length-map, length-set, length_push, map-append, take_more, take_all, drop_all, append-nil}
 use Rattle.std.proofs.lemmas.List.Elements.{All-nil, All-push, All-set}
 use Rattle.std.proofs.lemmas.Option.{get_or_from_slice_get, slice_get-map, slice_get_within}
 use Rattle.dfa_core.specs.Automaton.{run, state_count, step, steps_of}
@@ -55,6 +55,13 @@ module _ (list : WatchedList) (watched : List Watched) (states table_states : Li
 
   pub place-room : (case place : ℕ) → case < length states → place < length watched → case * length watched + place < length table_states
   place-room case place lt lp = let le = row-room case lt in omega (arith, le, lp)
+
+  -- what is read at a place of a case's row
+  pub cell-read : (case place width cell : ℕ) → case < length states → place < length watched → width ≡ length watched → cell ≡ get_or table_states (case * width + place) cell
+      → cell ≡ get_or table_states (case * length watched + place) 0
+  cell-read case place width cell lt lp same is =
+      let room : case * width + place < length table_states = rw same (place-room case place lt lp) in
+      get_or_read table_states (case * width + place) cell room is 0 ∙ ap (λ k. get_or table_states (case * k + place) 0) same
 
   some_constraint : {x y : Constraint} → Some x ≡ Some y → x ≡ y
   some_constraint e = cc e

@@ -18,33 +18,26 @@ use Rattle.json.proofs.Printed.Numbers.{lex-number, in_word-ended}
 abbrev lf : List ℕ → List ℕ
 lf r = r ++ 10 ∷ []
 
-after_value_ends : (ts : List Token) → ends_word (lf (print_from true ts)) ≡ true
+-- no word goes on behind a value, where none goes on in what stands behind the text
+ends_behind : (behind : List ℕ) → ends_word behind ≡ true → (ts : List Token) → ends_word (print_from true ts ++ behind) ≡ true
 unfolding print_from
-after_value_ends [] = refl
-after_value_ends (begin_object ∷ ts) = refl
-after_value_ends (end_object ∷ ts) = refl
-after_value_ends (begin_array ∷ ts) = refl
-after_value_ends (end_array ∷ ts) = refl
-after_value_ends (key s ∷ ts) = refl
-after_value_ends (string s ∷ ts) = refl
-after_value_ends (number s ∷ ts) = refl
-after_value_ends (boolean b ∷ ts) = refl
-after_value_ends (null ∷ ts) = refl
-after_value_ends (bad ∷ ts) = refl
+ends_behind behind ends [] = ends
+ends_behind behind ends (begin_object ∷ ts) = refl
+ends_behind behind ends (end_object ∷ ts) = refl
+ends_behind behind ends (begin_array ∷ ts) = refl
+ends_behind behind ends (end_array ∷ ts) = refl
+ends_behind behind ends (key s ∷ ts) = refl
+ends_behind behind ends (string s ∷ ts) = refl
+ends_behind behind ends (number s ∷ ts) = refl
+ends_behind behind ends (boolean b ∷ ts) = refl
+ends_behind behind ends (null ∷ ts) = refl
+ends_behind behind ends (bad ∷ ts) = refl
+
+after_value_ends : (ts : List Token) → ends_word (lf (print_from true ts)) ≡ true
+after_value_ends ts = ends_behind (10 ∷ []) refl ts
 
 plain_ends : (ts : List Token) → ends_word (print_from true ts) ≡ true
-unfolding print_from
-plain_ends [] = refl
-plain_ends (begin_object ∷ ts) = refl
-plain_ends (end_object ∷ ts) = refl
-plain_ends (begin_array ∷ ts) = refl
-plain_ends (end_array ∷ ts) = refl
-plain_ends (key s ∷ ts) = refl
-plain_ends (string s ∷ ts) = refl
-plain_ends (number s ∷ ts) = refl
-plain_ends (boolean b ∷ ts) = refl
-plain_ends (null ∷ ts) = refl
-plain_ends (bad ∷ ts) = refl
+plain_ends ts = ap ends_word (sym (append-nil (print_from true ts))) ∙ ends_behind [] refl ts
 
 same_quoted : (s r q : List ℕ) → lex between r ≡ lex between q → lex between (quoted s ++ r) ≡ lex between (quoted s ++ q)
 unfolding lex

@@ -61,6 +61,11 @@ scored_value names s = object (scored_members names s no_members)
 abbrev pub trace_value : List (List ℕ) → List ℕ → Data
 trace_value names trace = array (items_of (map (λ rank. string (name_at names rank)) trace))
 
+-- an object with one more member
+abbrev pub with_more : List ℕ → Data → Data → Data
+with_more key value (object members) = object (with_member key value members)
+with_more key value other = other
+
 -- a constraint with the trace that breaks it alone
 abbrev pub witnessed_value : List (List ℕ) → Scored → List ℕ → Data
 witnessed_value names s witness = object (scored_members names s (member (codes "witness") (trace_value names witness) no_members))

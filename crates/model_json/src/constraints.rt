@@ -2,39 +2,28 @@ ghost use Rattle.std.specs.Prelude.{◌≡◌, ◌<◌, map, length, codes, All,
 ghost use Rattle.serde_json.specs.Data.{object, member, string};
 ghost use Rattle.serde_json.specs.View.{view};
 ghost use Rattle.template_core.specs.Constraints.{IsWellMadeFor};
-ghost use Rattle.model_json.specs.Report.{fraction_value, parameters_value, constraint_value, trace_value, why};
+ghost use Rattle.model_json.specs.Report.{fraction_value, parameters_value, constraint_value, trace_value, why, with_more};
 ghost use Rattle.model_json.specs.Report.{scored_members, scored_value, untested_value, witnessed_value};
 
 use decl_base::{Frac, Trace};
 use event_log::Alphabet;
 use scoring::Scored;
-use serde_json::{Value, json};
+use serde_json::{Value, json, put};
 use std::alloc::{AllocError, Global};
 use template_core::Constraint;
 use template_set::{arity, name};
 
-/// The values that each object of a constraint with its scores has.
-#[derive(Drop)]
-struct Shared {
-    confidence: Value,
-    interest: Value,
-    parameters: Value,
-    support: Value,
-}
-
-fn shared_of(alloc: Global, names: &Alphabet, scored: &Scored) -> Result<Shared, AllocError>
-    requires { IsWellMadeFor (length names.now.names) scored.now.constraint }
-    ensures confidence { IfOk result (λ s. view s.confidence ≡ fraction_value scored.now.confidence) }
-    ensures interest { IfOk result (λ s. view s.interest ≡ fraction_value scored.now.interest) }
-    ensures parameters { IfOk result (λ s. view s.parameters ≡ parameters_value names.now.names scored.now.constraint) }
-    ensures support { IfOk result (λ s. view s.support ≡ fraction_value scored.now.support) }
+/// An object with one more member.
+fn with_more(alloc: Global, object: Value, key: &str, member: Value) -> Result<Value, AllocError>
+    ensures { IfOk result (λ value. view value ≡ with_more key.now (view member) (view object)) }
 {
-    Ok(Shared {
-        confidence: fraction_value(alloc, &scored.confidence)?,
-        interest: fraction_value(alloc, &scored.interest)?,
-        parameters: parameters_value(alloc, names, &scored.constraint)?,
-        support: fraction_value(alloc, &scored.support)?,
-    })
+    match object {
+        Value::Object(mut members) => {
+            put(&mut members, alloc, key, member)?;
+            Ok(Value::Object(members))
+        }
+        other => Ok(other),
+    }
 }
 
 /// A constraint with its scores.
@@ -42,12 +31,15 @@ pub fn scored_value(alloc: Global, names: &Alphabet, scored: &Scored) -> Result<
     requires { IsWellMadeFor (length names.now.names) scored.now.constraint }
     ensures { IfOk result (λ value. view value ≡ scored_value names.now.names scored.now) }
 {
-    let shared = shared_of(alloc, names, scored)?;
+    let confidence = fraction_value(alloc, &scored.confidence)?;
+    let interest = fraction_value(alloc, &scored.interest)?;
+    let parameters = parameters_value(alloc, names, &scored.constraint)?;
+    let support = fraction_value(alloc, &scored.support)?;
     json!(in alloc; {
-        "confidence": shared.confidence,
-        "interest": shared.interest,
-        "parameters": shared.parameters,
-        "support": shared.support,
+        "confidence": confidence,
+        "interest": interest,
+        "parameters": parameters,
+        "support": support,
         "template": name(scored.constraint.kind)
     })
 }
@@ -63,16 +55,13 @@ pub fn witnessed_value(
     requires witness { All (λ rank. rank < length names.now.names) witness.now }
     ensures { IfOk result (λ value. view value ≡ witnessed_value names.now.names scored.now witness.now) }
 {
-    let shared = shared_of(alloc, names, scored)?;
     let witness = trace_value(alloc, names, witness)?;
-    json!(in alloc; {
-        "confidence": shared.confidence,
-        "interest": shared.interest,
-        "parameters": shared.parameters,
-        "support": shared.support,
-        "template": name(scored.constraint.kind),
-        "witness": witness
-    })
+    with_more(
+        alloc,
+        scored_value(alloc, names, scored)?,
+        "witness",
+        witness,
+    )
 }
 
 /// A constraint with its scores that stays untested.
@@ -80,15 +69,8 @@ pub fn untested_value(alloc: Global, names: &Alphabet, scored: &Scored) -> Resul
     requires { IsWellMadeFor (length names.now.names) scored.now.constraint }
     ensures { IfOk result (λ value. view value ≡ untested_value names.now.names scored.now) }
 {
-    let shared = shared_of(alloc, names, scored)?;
-    json!(in alloc; {
-        "confidence": shared.confidence,
-        "interest": shared.interest,
-        "parameters": shared.parameters,
-        "support": shared.support,
-        "template": name(scored.constraint.kind),
-        "untested": true
-    })
+    let scored = scored_value(alloc, names, scored)?;
+    with_more(alloc, scored, "untested", Value::Bool(true))
 }
 
 /// A constraint with its scores and the reason why it is dropped.
@@ -101,15 +83,8 @@ pub fn dropped_value(
     requires { IsWellMadeFor (length names.now.names) scored.now.constraint }
     ensures { IfOk result (λ value. view value ≡ object (scored_members names.now.names scored.now (why reason.now))) }
 {
-    let shared = shared_of(alloc, names, scored)?;
-    json!(in alloc; {
-        "confidence": shared.confidence,
-        "interest": shared.interest,
-        "parameters": shared.parameters,
-        "support": shared.support,
-        "template": name(scored.constraint.kind),
-        "why": reason
-    })
+    let reason = Value::try_from_str(alloc, reason)?;
+    with_more(alloc, scored_value(alloc, names, scored)?, "why", reason)
 }
 
 /// A constraint with its scores that is dropped since another one is above it.
@@ -124,17 +99,9 @@ pub fn weaker_value(
     ensures { IfOk result (λ value. view value
         ≡ object (member (codes "by") (constraint_value names.now.names above.now) (scored_members names.now.names scored.now (why (codes "weaker"))))) }
 {
-    let shared = shared_of(alloc, names, scored)?;
     let by = constraint_value(alloc, names, above)?;
-    json!(in alloc; {
-        "by": by,
-        "confidence": shared.confidence,
-        "interest": shared.interest,
-        "parameters": shared.parameters,
-        "support": shared.support,
-        "template": name(scored.constraint.kind),
-        "why": "weaker"
-    })
+    let dropped = dropped_value(alloc, names, scored, "weaker")?;
+    with_more(alloc, dropped, "by", by)
 }
 
 /// A constraint without its scores.

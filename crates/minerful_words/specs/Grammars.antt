@@ -1,5 +1,5 @@
 -- What the text of an option means, where it is in the grammar of the option.
-use Rattle.std.specs.Prelude.{◌≤◌, ℕ, List, Bool, true, false, ◌&&◌, Option, Some, None, codes, length, nat_le, if◌then◌else◌, option_and_then}
+use Rattle.std.specs.Prelude.{◌≤◌, ℕ, List, [], ◌∷◌, Bool, true, false, ◌&&◌, Option, Some, None, codes, length, nat_le, if◌then◌else◌, option_and_then}
 use Rattle.std.specs.List.{list_all}
 use Rattle.std.specs.Str.{bytes_eq}
 use Rattle.decl_base.specs.Limits.{greatest_state_limit, standard}
@@ -58,35 +58,26 @@ most_letters = 26
 abbrev pub most_listed : ℕ
 most_listed = 20
 
+-- the value that a text names, of a list of names and what each stands for
+abbrev pub named_in : {A : Type 0} → List (List ℕ × A) → List ℕ → Option A
+named_in [] text = None
+named_in ((name, value) ∷ others) text = if bytes_eq text name then Some value else named_in others text
+
 unfoldable pub format_of : List ℕ → Option Format
-format_of text =
-    if bytes_eq text (codes "string") then Some format.Strings
-    else (if bytes_eq text (codes "csv") then Some format.Csv else None)
+format_of text = named_in ((codes "string", format.Strings) ∷ (codes "csv", format.Csv) ∷ []) text
 
 unfoldable pub order_as_of : List ℕ → Option OrderAs
-order_as_of text =
-    if bytes_eq text (codes "text") then Some order.Text
-    else (if bytes_eq text (codes "number") then Some order.Number else None)
+order_as_of text = named_in ((codes "text", order.Text) ∷ (codes "number", order.Number) ∷ []) text
 
 unfoldable pub stage_of : List ℕ → Option Stage
-stage_of text =
-    if bytes_eq text (codes "model") then Some stage.Model
-    else (if bytes_eq text (codes "consistent") then Some stage.Consistent
-    else (if bytes_eq text (codes "scores") then Some stage.Scores else None))
+stage_of text = named_in ((codes "model", stage.Model) ∷ (codes "consistent", stage.Consistent) ∷ (codes "scores", stage.Scores) ∷ []) text
 
 unfoldable pub out_of : List ℕ → Option Out
-out_of text =
-    if bytes_eq text (codes "json") then Some out.Json
-    else (if bytes_eq text (codes "table") then Some out.Table
-    else (if bytes_eq text (codes "cert") then Some out.Cert else None))
+out_of text = named_in ((codes "json", out.Json) ∷ (codes "table", out.Table) ∷ (codes "cert", out.Cert) ∷ []) text
 
 unfoldable pub repertoire_of : List ℕ → Option Repertoire
-repertoire_of text =
-    if bytes_eq text (codes "1") then Some repertoire.First
-    else (if bytes_eq text (codes "2") then Some repertoire.Second else None)
+repertoire_of text = named_in ((codes "1", repertoire.First) ∷ (codes "2", repertoire.Second) ∷ []) text
 
 -- whether a run keeps on where the limit on states is met
 unfoldable pub keep_of : List ℕ → Option Bool
-keep_of text =
-    if bytes_eq text (codes "stop") then Some false
-    else (if bytes_eq text (codes "keep") then Some true else None)
+keep_of text = named_in ((codes "stop", false) ∷ (codes "keep", true) ∷ []) text

@@ -1,10 +1,9 @@
 ghost use Rattle.std.specs.Prelude.{◌≡◌, ◌++◌, codes, option_map, string_bytes, IfOk, IfErr, OnOk};
 ghost use Rattle.serde_json.specs.View.{view};
 ghost use Rattle.serde_json.specs.Written.{compact_text};
-ghost use Rattle.report_text.specs.AnalysisText.{accepts_line, analysis_text, numbers_value as numbers_value_of, trace_lines, word_line};
-ghost use Rattle.report_text.specs.OpenTraces.{open_trace_text};
+ghost use Rattle.report_text.specs.AnalysisText.{accepts_line, analysis_text, numbers_value as numbers_value_of, trace_lines};
 
-use crate::open_traces::put_open_trace;
+use crate::open_traces::{put_line, put_trace};
 use decl_base::{Refusal, Trace};
 use event_log::Alphabet;
 use model_compare::Analysed;
@@ -30,34 +29,6 @@ pub fn analysed_text(
     put_line(&mut out, "redundant", redundant.as_bytes())?;
     put_traces(alloc, &mut out, names, analysed.traces())?;
     Ok(out)
-}
-
-/// A line of a word and a text.
-fn put_line(out: &mut Vec<u8>, word: &str, text: &[u8]) -> Result<(), AllocError>
-    ensures { OnOk result (out.new.items ≡ out.old.items ++ word_line word.now text.now) }
-{
-    out.extend_from_slice(word.as_bytes())?;
-    out.push(b' ')?;
-    out.extend_from_slice(text)?;
-    out.push(b'\n')?;
-    Ok(())
-}
-
-/// A line of a word and a trace.
-fn put_trace(
-    alloc: Global,
-    out: &mut Vec<u8>,
-    names: &Alphabet,
-    word: &str,
-    trace: &Trace,
-) -> Result<(), AllocError>
-    ensures { OnOk result (out.new.items ≡ out.old.items ++ word_line word.now (open_trace_text names.now.names trace.now)) }
-{
-    out.extend_from_slice(word.as_bytes())?;
-    out.push(b' ')?;
-    put_open_trace(alloc, out, names, trace)?;
-    out.push(b'\n')?;
-    Ok(())
 }
 
 /// The line of the least trace that keeps the model.

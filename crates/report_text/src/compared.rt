@@ -1,7 +1,7 @@
 ghost use Rattle.std.specs.Prelude.{◌≡◌, ◌++◌, option_map, IfOk, IfErr, OnOk};
-ghost use Rattle.report_text.specs.ComparisonText.{comparison_text, trace_line, trace_or_dash, relation_line, relation_name};
+ghost use Rattle.report_text.specs.ComparisonText.{comparison_text, trace_line, relation_line, relation_name};
 
-use crate::open_traces::put_open_trace;
+use crate::open_traces::{put_line, put_trace};
 use decl_base::{Refusal, Trace};
 use event_log::Alphabet;
 use model_compare::{Compared, Relation};
@@ -19,8 +19,8 @@ pub fn compared_text(
 {
     let mut out = Vec::new(alloc);
     put_relation(&mut out, compared.relation())?;
-    put_line(alloc, &mut out, names, "only first", compared.only_first())?;
-    put_line(
+    put_found(alloc, &mut out, names, "only first", compared.only_first())?;
+    put_found(
         alloc,
         &mut out,
         names,
@@ -51,8 +51,8 @@ fn relation_name(relation: Relation) -> &'static str
     }
 }
 
-/// A line of a word and a trace.
-fn put_line(
+/// A line of a word and a trace over the names and the symbol behind them, or `-` where there is none.
+fn put_found(
     alloc: Global,
     out: &mut Vec<u8>,
     names: &Alphabet,
@@ -61,25 +61,8 @@ fn put_line(
 ) -> Result<(), AllocError>
     ensures { OnOk result (out.new.items ≡ out.old.items ++ trace_line names.now.names word.now (option_map (λ t. t.now) trace.entry)) }
 {
-    out.extend_from_slice(word.as_bytes())?;
-    out.push(b' ')?;
-    put_trace(alloc, out, names, trace)?;
-    out.push(b'\n')?;
-    Ok(())
-}
-
-/// A trace over the names and the symbol behind them, or `-` where there is none.
-fn put_trace(
-    alloc: Global,
-    out: &mut Vec<u8>,
-    names: &Alphabet,
-    trace: Option<&Trace>,
-) -> Result<(), AllocError>
-    ensures { OnOk result (out.new.items ≡ out.old.items ++ trace_or_dash names.now.names (option_map (λ t. t.now) trace.entry)) }
-{
     match trace {
-        Some(trace) => put_open_trace(alloc, out, names, trace)?,
-        None => out.push(b'-')?,
+        Some(trace) => put_trace(alloc, out, names, word, trace),
+        None => put_line(out, word, "-".as_bytes()),
     }
-    Ok(())
 }

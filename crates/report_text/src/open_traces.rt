@@ -1,5 +1,6 @@
-ghost use Rattle.std.specs.Prelude.{◌≡◌, ◌++◌, slice_get, IfOk, OnOk};
+ghost use Rattle.std.specs.Prelude.{◌≡◌, ◌++◌, slice_get, string_bytes, IfOk, OnOk};
 ghost use Rattle.serde_json.specs.View.{view};
+ghost use Rattle.report_text.specs.AnalysisText.{word_line};
 ghost use Rattle.report_text.specs.OpenTraces.{name_or_null, open_trace_text, open_trace_value};
 
 use decl_base::Trace;
@@ -7,18 +8,37 @@ use event_log::Alphabet;
 use serde_json::Value;
 use std::alloc::{AllocError, Global};
 
-/// The names of a trace as a JSON list, with `null` for the symbol behind the last name.
-pub(crate) fn put_open_trace(
+/// A line of a word and a text.
+pub(crate) fn put_line(out: &mut Vec<u8>, word: &str, text: &[u8]) -> Result<(), AllocError>
+    ensures { OnOk result (out.new.items ≡ out.old.items ++ word_line word.now text.now) }
+{
+    out.extend_from_slice(word.as_bytes())?;
+    out.push(b' ')?;
+    out.extend_from_slice(text)?;
+    out.push(b'\n')?;
+    Ok(())
+}
+
+/// A line of a word and a trace.
+pub(crate) fn put_trace(
     alloc: Global,
     out: &mut Vec<u8>,
     names: &Alphabet,
+    word: &str,
     trace: &Trace,
 ) -> Result<(), AllocError>
-    ensures { OnOk result (out.new.items ≡ out.old.items ++ open_trace_text names.now.names trace.now) }
+    ensures { OnOk result (out.new.items ≡ out.old.items ++ word_line word.now (open_trace_text names.now.names trace.now)) }
 {
-    let text = open_trace_value(alloc, names, trace)?.to_string(alloc)?;
-    out.extend_from_slice(text.as_bytes())?;
-    Ok(())
+    let text = open_trace_text(alloc, names, trace)?;
+    put_line(out, word, text.as_bytes())
+}
+
+/// The names of a trace as a JSON list, with `null` for the symbol behind the last name.
+fn open_trace_text(alloc: Global, names: &Alphabet, trace: &Trace) -> Result<String, AllocError>
+    ensures { IfOk result (λ text. string_bytes text ≡ open_trace_text names.now.names trace.now) }
+{
+    let value = open_trace_value(alloc, names, trace)?;
+    value.to_string(alloc)
 }
 
 /// A list of the names of a trace.

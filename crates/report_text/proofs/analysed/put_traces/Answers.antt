@@ -1,4 +1,4 @@
-use Rattle.std.proofs.Common.{ℕ, ◌+◌, List, [], ◌∷◌, ◌++◌, codes, take, sym, ap, ◌∙◌}
+use Rattle.std.proofs.Common.{◌+◌, [], ◌∷◌, ◌++◌, codes, take, sym, ap, ◌∙◌}
 use Rattle.std.proofs.lemmas.List.{take_more}
 use Rattle.report_text.specs.AnalysisText.{word_line}
 use Rattle.report_text.specs.OpenTraces.{open_trace_text}

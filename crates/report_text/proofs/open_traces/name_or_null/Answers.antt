@@ -1,4 +1,4 @@
-use Rattle.std.proofs.Common.{◌≡◌, slice_get, arith, ap, sym, ◌∙◌}
+use Rattle.std.proofs.Common.{arith, ap, sym, ◌∙◌}
 use Rattle.std.proofs.lemmas.Option.{slice_get_past}
 use Rattle.report_text.specs.OpenTraces.{name_or_null}
 use Rattle.report_text.proofs.open_traces.name_or_null.Goals as goal

@@ -1,5 +1,5 @@
 -- The headline follows from what the outcome is.
-use Rattle.std.proofs.Common.{◌≡◌, ℕ, List, [], Bool, true, false, Option, Result, Ok, Err, IfSome, All, length, refl, ap, subst, ◌∙◌}
+use Rattle.std.proofs.Common.{◌≡◌, ℕ, List, [], Bool, true, false, Option, Result, Ok, Err, IfSome, All, length, refl, sym, ap, subst, ◌∙◌}
 use Rattle.std.specs.Prelude.{MatchBool, IfOk, nat_lt}
 use Rattle.std.specs.Io.KnownBytes.{append_known}
 use Rattle.std.proofs.lemmas.List.{length-map}
@@ -96,19 +96,24 @@ Shows Mines Prints =
     (s : Settings) (bytes : List ℕ) (log : List (List (List ℕ))) (text : List ℕ) (old new : SinkState) → new.held ≡ append_known old.held text → Mines s → log_of s.format s.columns bytes ≡ Ok log
     → IsLogOutcome Mine s log (answers status.Done text) → Prints s bytes old new
 
+-- there is a reduction of the candidates, and the text is that of its report
+reported : (keep : Bool) (s : Settings) (log : List (List (List ℕ))) (text : List ℕ) → s.stage ≡ Model → s.out ≡ Json → s.keep ≡ keep → IsLogOutcome Mine s log (answers status.Done text)
+    → (reduction : Reduction) × IsReductionBy keep (length (sorted_names log)) s.states (constraints_in (candidates_in s log)) reduction
+    × (text ≡ text_of_log (model_text Json s.repertoire (candidates_in s log) reduction) log)
+reported keep s log text stage out keep_is is =
+    let list = candidates_in s log in
+    let told = subst (λ keep. IsModelOutcome keep (model_text Json s.repertoire list) s.states list log (answers status.Done text)) keep_is (modelled Json s log text stage out is) in
+    (told.0, told.1, same_text text (text_of_log (model_text Json s.repertoire list told.0) log) told.2)
+
 shows_model : Shows MinesModel PrintsModel
 shows_model s bytes log text old new held mines read is =
-    let list = candidates_in s log in
-    let told = subst (λ keep. IsModelOutcome keep (model_text Json s.repertoire list) s.states list log (answers status.Done text)) mines.stops (modelled Json s log text mines.stage mines.out is) in
-    let text_is = same_text text (text_of_log (model_text Json s.repertoire list told.0) log) told.2 in
-    (log, list, told.0, read, held ∙ ap (append_known old.held) text_is, headline s log told.0 told.1)
+    let told = reported false s log text mines.stage mines.out mines.stops is in
+    (log, candidates_in s log, told.0, read, held ∙ ap (append_known old.held) told.2, headline s log told.0 told.1)
 
 shows_within : Shows MinesWithin PrintsWithin
 shows_within s bytes log text old new held mines read is =
-    let list = candidates_in s log in
-    let told = subst (λ keep. IsModelOutcome keep (model_text Json s.repertoire list) s.states list log (answers status.Done text)) mines.keeps (modelled Json s log text mines.stage mines.out is) in
-    let text_is = same_text text (text_of_log (model_text Json s.repertoire list told.0) log) told.2 in
-    (log, list, told.0, read, held ∙ ap (append_known old.held) text_is, headline_within s log told.0 told.1)
+    let told = reported true s log text mines.stage mines.out mines.keeps is in
+    (log, candidates_in s log, told.0, read, held ∙ ap (append_known old.held) told.2, headline_within s log told.0 told.1)
 
 shows_certificate : Shows MinesCertificate PrintsCertificate
 shows_certificate s bytes log text old new held mines read is =
@@ -151,6 +156,9 @@ pub certified_of : (words : List (List ℕ)) (contents : Option (List ℕ → Li
 certified_of = printed_of MinesCertificate PrintsCertificate (λ s mines. mines.command) shows_certificate
 
 -- a refusal has another status
-pub not_done : (r : Refusal) → status_of r ≡ status.Done → ⊥
-not_done refusal.Memory e = cc
-not_done r e = cc
+pub never_done : {A : Type 0} {s : Status} (r : Refusal) → s ≡ status_of r → s ≡ status.Done → A
+never_done r is done = absurd (apart r (sym is ∙ done))
+  where
+    apart : (r : Refusal) → status_of r ≡ status.Done → ⊥
+    apart refusal.Memory e = cc
+    apart r e = cc

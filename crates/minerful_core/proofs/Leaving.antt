@@ -1,5 +1,5 @@
 -- What a run of some words leaves, where they are those of a monitor, and where they aren't.
-use Rattle.std.proofs.Common.{◌≡◌, ◌≢◌, ◌⊎◌, ℕ, List, [], ◌∷◌, Option, None, Some, Result, Ok, Err, IfSome, IfOk, inl, inr, refl, sym, ap, subst, ◌∙◌}
+use Rattle.std.proofs.Common.{◌≡◌, ◌≢◌, ℕ, List, [], ◌∷◌, Option, None, Some, Result, Ok, Err, IfSome, IfOk, inl, refl, sym, ap, subst, ◌∙◌}
 use Rattle.decl_base.specs.Refusal.{status_of}
 use Rattle.decl_base.specs.declared.refusal.Refusal.{Refusal}
 use Rattle.decl_base.specs.declared.refusal.Refusal.TheVariants as refusal
@@ -12,8 +12,8 @@ use Rattle.minerful_words.specs.declared.settings.Command.TheVariants.{Mine, Mon
 use Rattle.minerful_words.specs.declared.settings.Settings.{Settings}
 use Rattle.minerful_core.specs.Monitored.{LeavesBy, LeavesLines, LeavesOf, LeavesOutput, PrintsLines}
 use Rattle.minerful_core.specs.Outcome.{Outcome, IsCommandOutcome, IsOutcome, IsSettingsOutcome}
-use Rattle.minerful_core.specs.Run.{AsksFor, EndsWith, HasStatus, InputFailed, NamedInputFailed, WritesError, WritesOutput}
-use Rattle.minerful_core.proofs.Answering.{asks_for, inputs_are}
+use Rattle.minerful_core.specs.Run.{AsksFor, HasStatus, InputFailed, NamedInputFailed, WritesError, WritesOutput}
+use Rattle.minerful_core.proofs.Answering.{inputs_are}
 use Rattle.minerful_core.proofs.Refusing.{told}
 
 -- ---- words of another command

@@ -14,6 +14,7 @@ use Rattle.scoring.specs.declared.scored.Scored.{Scored}
 use Rattle.scoring.proofs.Orders.{count-cons}
 use Rattle.template_core.specs.declared.constraint.Constraint.{Constraint}
 use Rattle.minerful_core.specs.Outcome.{constraints_in, IsReductionBy}
+use Rattle.minerful_core.specs.Writing.{CanWrite}
 
 -- the constraints that are listed are those that stay
 pub constraints-staying : (list : List Scored) (decisions : List Decision) → constraints_in (staying list decisions) ≡ those is_kept (constraints_in list) decisions
@@ -96,7 +97,7 @@ over-within n kept (c ∷ list) (SecondPass ∷ decisions) witnesses h = over-wi
 over-within n kept (c ∷ list) (Beyond ∷ decisions) witnesses h = over-within n kept list decisions witnesses h
 
 -- what a reduction of either mode gives to a report
-pub record IsReportable (n : ℕ) (list : List Constraint) (reduction : Reduction) : Type 0 where
+record IsReportable (n : ℕ) (list : List Constraint) (reduction : Reduction) : Type 0 where
   pub decisions : length reduction.decisions ≡ length list
   pub witnesses : length reduction.witnesses ≡ count_by is_tested reduction.decisions
   pub over : AllByRecursion (λ (w : List ℕ). All (λ rank. rank < n) w) reduction.witnesses
@@ -121,18 +122,14 @@ reportable false n states list reduction h = record {
   example = All-from_recursion (λ rank. rank < n) reduction.example h.example.over;
 }
 
-module _ (keep : Bool) (n m states : ℕ) (list : List Scored) (constraints : List Constraint) (reduction : Reduction) (same : m ≡ n) (is : constraints ≡ constraints_in list) (h : IsReductionBy keep n states constraints reduction) where
-  told : IsReportable n constraints reduction
-  told = reportable keep n states constraints reduction h
-
-  pub as_many_decisions : length reduction.decisions ≡ length list
-  as_many_decisions = told.decisions ∙ ap length is ∙ length-map list (λ s. s.constraint)
-
-  pub as_many_witnesses : length reduction.witnesses ≡ count_by is_tested reduction.decisions
-  as_many_witnesses = told.witnesses
-
-  pub witnesses_over : All (λ w. All (λ rank. rank < m) w) reduction.witnesses
-  witnesses_over = subst (λ k. All (λ w. All (λ rank. rank < k) w) reduction.witnesses) (sym same) (All-from_recursion (λ w. All (λ rank. rank < n) w) reduction.witnesses told.over)
-
-  pub reduced_example_over : All (λ rank. rank < m) reduction.example
-  reduced_example_over = subst (λ k. All (λ rank. rank < k) reduction.example) (sym same) told.example
+-- it can be written with the candidates that it is of, over as many names as symbols
+pub can_write : (keep : Bool) (n m states : ℕ) (list : List Scored) (constraints : List Constraint) (reduction : Reduction) → m ≡ n → constraints ≡ constraints_in list
+    → IsReductionBy keep n states constraints reduction → CanWrite m list reduction
+can_write keep n m states list constraints reduction same is h =
+    let told = reportable keep n states constraints reduction h in
+    record {
+      decisions = told.decisions ∙ ap length is ∙ length-map list (λ s. s.constraint);
+      witnesses = told.witnesses;
+      witness = subst (λ k. All (λ w. All (λ rank. rank < k) w) reduction.witnesses) (sym same) (All-from_recursion (λ w. All (λ rank. rank < n) w) reduction.witnesses told.over);
+      example = subst (λ k. All (λ rank. rank < k) reduction.example) (sym same) told.example;
+    }

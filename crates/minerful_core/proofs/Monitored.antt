@@ -1,5 +1,5 @@
 -- Why a run over running cases is refused, and what it leaves.
-use Rattle.std.proofs.Common.{◌≡◌, ◌≢◌, ℕ, ◌≤◌, List, [], ◌∷◌, true, false, Option, None, Some, Result, Ok, Err, IfSome, inl, inr, refl, sym, ap, subst, ◌∙◌, true≢false, arith}
+use Rattle.std.proofs.Common.{◌≡◌, ℕ, ◌≤◌, List, [], ◌∷◌, false, Option, None, Some, Ok, Err, IfSome, inl, inr, refl, sym, ap, subst, ◌∙◌, true≢false, arith}
 use Rattle.decl_base.specs.Limits.{standard}
 use Rattle.decl_base.specs.Refusal.{status_of}
 use Rattle.decl_base.specs.declared.limits.Limits.{Limits}
@@ -200,9 +200,15 @@ outcome_of_all s contents old new (model, read, watchable, all) =
     (answers status.Done found.0, subst (λ m. IsOutcomeOf (λ model. IsMonitorOutcome s.states model (contents s.log)) m (answers status.Done found.0)) (sym read) (inl (watchable, found.1)), refl)
 
 -- the status, and what the output and standard error hold then
-abbrev pub EndsLines : Settings → (List ℕ → List ℕ) → Status → InputState → SinkState → SinkState → SinkState → SinkState → Type 0
+abbrev EndsLines : Settings → (List ℕ → List ℕ) → Status → InputState → SinkState → SinkState → SinkState → SinkState → Type 0
 EndsLines s contents ended inputs old_out out old_err err =
     HasStatus (IsCommandOutcome Monitor s contents) ended × LeavesLines s contents ended inputs old_out out × WritesError (IsCommandOutcome Monitor s contents) ended old_err err
+
+-- the same where the contents may be told or not
+pub record Ends (s : Settings) (contents : Option (List ℕ → List ℕ)) (ended : Status) (inputs : InputState) (old_out out old_err err : SinkState) : Type 0 where
+  pub has_status : IfSome contents (λ contents. HasStatus (IsCommandOutcome Monitor s contents) ended)
+  pub output : IfSome contents (λ contents. LeavesLines s contents ended inputs old_out out)
+  pub error : IfSome contents (λ contents. WritesError (IsCommandOutcome Monitor s contents) ended old_err err)
 
 module _ (s : Settings) (inputs : InputState) (old_out out old_err err : SinkState) where
   ends_at : (contents : List ℕ → List ℕ) (r : Refusal) → AppendsLine r old_err err → MonitorLeaves s contents inputs old_out out r → EndsLines s contents (status_of r) inputs old_out out old_err err
@@ -214,28 +220,24 @@ module _ (s : Settings) (inputs : InputState) (old_out out old_err err : SinkSta
       ((refuses r, is, refl), (r, refl, h), (r, is, line))
 
   module _ (told_contents : Option (List ℕ → List ℕ)) where
+    ends_of : (ended : Status) → IfSome told_contents (λ contents. EndsLines s contents ended inputs old_out out old_err err) → Ends s told_contents ended inputs old_out out old_err err
+    ends_of ended ends = record {
+      has_status = told told_contents (λ c. EndsLines s c ended inputs old_out out old_err err) (λ c. HasStatus (IsCommandOutcome Monitor s c) ended) (λ c e. e.0) ends;
+      output = told told_contents (λ c. EndsLines s c ended inputs old_out out old_err err) (λ c. LeavesLines s c ended inputs old_out out) (λ c e. e.1) ends;
+      error = told told_contents (λ c. EndsLines s c ended inputs old_out out old_err err) (λ c. WritesError (IsCommandOutcome Monitor s c) ended old_err err) (λ c e. e.2) ends;
+    }
+
     pub refused_ends : (r : Refusal) (ended : Status) → ended ≡ status_of r → AppendsLine r old_err err → IfSome told_contents (λ contents. MonitorLeaves s contents inputs old_out out r)
-        → IfSome told_contents (λ contents. EndsLines s contents ended inputs old_out out old_err err)
-    refused_ends r ended is line h =
-        told told_contents (λ contents. MonitorLeaves s contents inputs old_out out r) (λ contents. EndsLines s contents ended inputs old_out out old_err err)
-        (λ contents l. subst (λ e. EndsLines s contents e inputs old_out out old_err err) (sym is) (ends_at contents r line l)) h
+        → Ends s told_contents ended inputs old_out out old_err err
+    refused_ends r ended is line h = ends_of ended
+        (told told_contents (λ contents. MonitorLeaves s contents inputs old_out out r) (λ contents. EndsLines s contents ended inputs old_out out old_err err)
+        (λ contents l. subst (λ e. EndsLines s contents e inputs old_out out old_err err) (sym is) (ends_at contents r line l)) h)
 
     pub all_ends : err ≡ old_err → IfSome told_contents (λ contents. OfWatched s contents (λ names list. PrintsAll standard names list (contents s.log) old_out out))
-        → IfSome told_contents (λ contents. EndsLines s contents status.Done inputs old_out out old_err err)
-    all_ends same h =
-        told told_contents (λ contents. OfWatched s contents (λ names list. PrintsAll standard names list (contents s.log) old_out out))
-        (λ contents. EndsLines s contents status.Done inputs old_out out old_err err) (λ contents l. (outcome_of_all s contents old_out out l, l, ap (λ e. e.held) same)) h
-
-module _ (s : Settings) (contents : Option (List ℕ → List ℕ)) (ended : Status) (inputs : InputState) (old_out out old_err err : SinkState)
-    (ends : IfSome contents (λ contents. EndsLines s contents ended inputs old_out out old_err err)) where
-  pub lines_status : IfSome contents (λ contents. HasStatus (IsCommandOutcome Monitor s contents) ended)
-  lines_status = told contents (λ c. EndsLines s c ended inputs old_out out old_err err) (λ c. HasStatus (IsCommandOutcome Monitor s c) ended) (λ c e. e.0) ends
-
-  pub lines_output : IfSome contents (λ contents. LeavesLines s contents ended inputs old_out out)
-  lines_output = told contents (λ c. EndsLines s c ended inputs old_out out old_err err) (λ c. LeavesLines s c ended inputs old_out out) (λ c e. e.1) ends
-
-  pub lines_error : IfSome contents (λ contents. WritesError (IsCommandOutcome Monitor s contents) ended old_err err)
-  lines_error = told contents (λ c. EndsLines s c ended inputs old_out out old_err err) (λ c. WritesError (IsCommandOutcome Monitor s c) ended old_err err) (λ c e. e.2) ends
+        → Ends s told_contents status.Done inputs old_out out old_err err
+    all_ends same h = ends_of status.Done
+        (told told_contents (λ contents. OfWatched s contents (λ names list. PrintsAll standard names list (contents s.log) old_out out))
+        (λ contents. EndsLines s contents status.Done inputs old_out out old_err err) (λ contents l. (outcome_of_all s contents old_out out l, l, ap (λ e. e.held) same)) h)
 
 -- ---- causes, by the status
 

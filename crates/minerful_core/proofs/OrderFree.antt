@@ -21,7 +21,7 @@ use Rattle.report_text.specs.KbTable.{kb_text}
 use Rattle.scoring.specs.Candidates.{candidates_of}
 use Rattle.scoring.specs.declared.scored.Scored.{Scored}
 use Rattle.scoring.proofs.ByPair.{length-count}
-use Rattle.minerful_core.specs.Outcome.{LogText, Outcome, answers, candidates_in, certificate_text, consistent_text, constraints_in, model_text, refuses, scores_text, summary_text, text_of_log, IsCertified, IsCertifiedOutcome, IsLogOutcome, IsMinedOutcome, IsModelOutcome, IsModelOutcomeAs, IsReductionBy, IsReported, IsSiftBy, IsStageOutcome, IsTold, RefusesReductionBy, RefusesSiftBy}
+use Rattle.minerful_core.specs.Outcome.{LogText, Outcome, answers, candidates_in, certificate_text, consistent_text, constraints_in, model_text, refuses, scores_text, summary_text, text_of_log, IsCertifiedOutcome, IsLogOutcome, IsMinedOutcome, IsModelOutcome, IsModelOutcomeAs, IsReductionBy, IsReported, IsSiftBy, IsStageOutcome, IsTold, RefusesReductionBy, RefusesSiftBy}
 use Rattle.minerful_core.specs.SameTraces.{HoldTheSame}
 use Rattle.minerful_core.proofs.SameScores.{same_candidates, same_table}
 use Rattle.minerful_core.proofs.SameSums.{ranks_alike, same_events, same_names, same_sums}

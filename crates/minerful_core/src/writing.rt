@@ -1,8 +1,8 @@
-ghost use Rattle.std.specs.Prelude.{◌≡◌, ◌<◌, length, count_by, true, All, IfOk, IfErr};
+ghost use Rattle.std.specs.Prelude.{◌≡◌, ◌<◌, length, true, All, IfOk, IfErr};
 ghost use Rattle.model_json.specs.Model.{AreOf};
-ghost use Rattle.model_json.specs.Report.{is_tested};
 ghost use Rattle.template_core.specs.Constraints.{IsWellMadeFor};
 ghost use Rattle.minerful_core.specs.Outcome.{IsVerifiedText, certificate_text, scores_text, consistent_text, model_text};
+ghost use Rattle.minerful_core.specs.Writing.{CanWrite};
 
 use chain_cert::{Chain, Verdict, verify};
 use decl_base::Refusal;
@@ -53,7 +53,8 @@ pub(crate) fn write_consistent(
     requires repertoire { AreOf settings.now.repertoire list.now }
     requires decisions { length sifted.now.decisions ≡ length list.now }
     requires example { All (λ rank. rank < length names.now.names) sifted.now.example }
-    ensures text { IfOk result (λ text. text.items ≡ consistent_text settings.now.out settings.now.repertoire list.now sifted.now names.now.names traces events) }
+    ensures text { IfOk result (λ text. text.items
+        ≡ consistent_text settings.now.out settings.now.repertoire list.now sifted.now names.now.names traces events) }
     ensures err { IfErr result (λ e. e ≡ Refusal.Memory) }
 {
     match settings.out {
@@ -85,10 +86,7 @@ pub(crate) fn write_model(
 ) -> Result<Vec<u8>, Refusal>
     requires made { All (λ scored. IsWellMadeFor (length names.now.names) scored.constraint) list.now }
     requires repertoire { AreOf settings.now.repertoire list.now }
-    requires decisions { length reduced.now.decisions ≡ length list.now }
-    requires witnesses { length reduced.now.witnesses ≡ count_by is_tested reduced.now.decisions }
-    requires witness { All (λ trace. All (λ rank. rank < length names.now.names) trace) reduced.now.witnesses }
-    requires example { All (λ rank. rank < length names.now.names) reduced.now.example }
+    requires reduced { CanWrite (length names.now.names) list.now reduced.now }
     ensures text { IfOk result (λ text. text.items ≡ model_text settings.now.out settings.now.repertoire list.now reduced.now names.now.names traces events) }
     ensures err { IfErr result (λ e. e ≡ Refusal.Memory) }
 {
@@ -123,10 +121,7 @@ pub(crate) fn write_certificate(
 ) -> Result<Vec<u8>, Refusal>
     requires made { All (λ scored. IsWellMadeFor (length names.now.names) scored.constraint) list.now }
     requires repertoire { AreOf settings.now.repertoire list.now }
-    requires decisions { length reduced.now.decisions ≡ length list.now }
-    requires witnesses { length reduced.now.witnesses ≡ count_by is_tested reduced.now.decisions }
-    requires witness { All (λ trace. All (λ rank. rank < length names.now.names) trace) reduced.now.witnesses }
-    requires example { All (λ rank. rank < length names.now.names) reduced.now.example }
+    requires reduced { CanWrite (length names.now.names) list.now reduced.now }
     ensures text { IfOk result (λ text. text.items ≡ certificate_text settings.now.repertoire list.now reduced.now chain.now names.now.names traces events) }
     ensures verified { IfOk result (λ text. IsVerifiedText text.items) }
     ensures err { IfErr result (λ e. e ≡ Refusal.Memory) }

@@ -1,4 +1,4 @@
-use Rattle.minerful_core.proofs.Models.{as_many_decisions, as_many_witnesses, reduced_example_over, witnesses_over}
+use Rattle.minerful_core.proofs.Models.{can_write}
 use Rattle.std.proofs.Common.{◌≤◌, [], ap, false, refl, subst, sym, ◌∙◌, length}
 use Rattle.std.proofs.lemmas.List.{length-map}
 use Rattle.chain_cert.specs.Checks.{IsRight}
@@ -14,7 +14,7 @@ use Rattle.minerful_core.proofs.mining.certificate_text.Goals as goal
 pub reduce-requires-clause-made : goal.reduce-requires-clause-made
 reduce-requires-clause-made c =
     made_constraints c.len-tasks.result c.args.list.now c.deref.result.now (c.deref.ensures.value ∙ c.in_ok-constraints.ensures)
-    (made_in_order (length c.args.names.now.names) c.len-tasks.result c.args.list.now c.len-tasks.ensures c.requires.made)
+    (made_in_order (length c.args.names.now.names) c.len-tasks.result c.args.list.now c.len-tasks.ensures c.requires.ready.made)
 
 pub returns-in_err-reduced-clause-refusal : goal.returns-in_err-reduced-clause-refusal
 returns-in_err-reduced-clause-refusal c =
@@ -25,38 +25,24 @@ returns-in_err-reduced-clause-refusal c =
 pub make_chain-requires-clause-made : goal.make_chain-requires-clause-made
 make_chain-requires-clause-made c =
     made_constraints c.len-tasks.result c.args.list.now c.deref-2.result.now (c.deref-2.ensures.value ∙ c.in_ok-constraints.ensures)
-    (made_in_order (length c.args.names.now.names) c.len-tasks.result c.args.list.now c.len-tasks.ensures c.requires.made)
+    (made_in_order (length c.args.names.now.names) c.len-tasks.result c.args.list.now c.len-tasks.ensures c.requires.ready.made)
 
 pub make_chain-requires-clause-few : goal.make_chain-requires-clause-few
 make_chain-requires-clause-few c =
-    subst (λ l. length l ≤ 65536) (sym (c.deref-2.ensures.value ∙ c.in_ok-constraints.ensures)) (subst (λ k. k ≤ 65536) (sym (length-map c.args.list.now (λ s. s.constraint))) c.requires.few)
+    subst (λ l. length l ≤ 65536) (sym (c.deref-2.ensures.value ∙ c.in_ok-constraints.ensures)) (subst (λ k. k ≤ 65536) (sym (length-map c.args.list.now (λ s. s.constraint))) c.requires.ready.few)
 
 pub make_chain-requires-clause-few_symbols : goal.make_chain-requires-clause-few_symbols
-make_chain-requires-clause-few_symbols c = subst (λ n. n ≤ 1000) (sym c.len-tasks.ensures) c.requires.kb.1.within.few_names
+make_chain-requires-clause-few_symbols c = subst (λ n. n ≤ 1000) (sym c.len-tasks.ensures) c.requires.ready.kb_of.1.within.few_names
 
 pub write_certificate-requires-clause-made : goal.write_certificate-requires-clause-made
 write_certificate-requires-clause-made c =
     made_in_order (length c.args.names.now.names) (length c.in_ok-ordered.ordered.names) c.args.list.now
-    (ap (λ o. length o.names) c.in_ok-ordered.ensures.ok ∙ order-length c.args.names.now.names c.requires.kb.0 c.requires.kb.1.within.numbering) c.requires.made
+    (ap (λ o. length o.names) c.in_ok-ordered.ensures.ok ∙ order-length c.args.names.now.names c.requires.ready.kb_of.0 c.requires.ready.kb_of.1.within.numbering) c.requires.ready.made
 
-pub write_certificate-requires-clause-decisions : goal.write_certificate-requires-clause-decisions
-write_certificate-requires-clause-decisions c =
-    as_many_decisions false c.len-tasks.result c.len-tasks.result c.args.settings.now.states c.args.list.now c.deref.result.now c.in_ok-reduced.reduced refl (c.deref.ensures.value ∙ c.in_ok-constraints.ensures) c.in_ok-reduced.ensures.ok
-
-pub write_certificate-requires-clause-witnesses : goal.write_certificate-requires-clause-witnesses
-write_certificate-requires-clause-witnesses c =
-    as_many_witnesses false c.len-tasks.result c.len-tasks.result c.args.settings.now.states c.args.list.now c.deref.result.now c.in_ok-reduced.reduced refl (c.deref.ensures.value ∙ c.in_ok-constraints.ensures) c.in_ok-reduced.ensures.ok
-
-pub write_certificate-requires-clause-witness : goal.write_certificate-requires-clause-witness
-write_certificate-requires-clause-witness c =
-    witnesses_over false c.len-tasks.result (length c.in_ok-ordered.ordered.names) c.args.settings.now.states c.args.list.now c.deref.result.now c.in_ok-reduced.reduced
-    (ap (λ o. length o.names) c.in_ok-ordered.ensures.ok ∙ order-length c.args.names.now.names c.requires.kb.0 c.requires.kb.1.within.numbering ∙ sym c.len-tasks.ensures)
-    (c.deref.ensures.value ∙ c.in_ok-constraints.ensures) c.in_ok-reduced.ensures.ok
-
-pub write_certificate-requires-clause-example : goal.write_certificate-requires-clause-example
-write_certificate-requires-clause-example c =
-    reduced_example_over false c.len-tasks.result (length c.in_ok-ordered.ordered.names) c.args.settings.now.states c.args.list.now c.deref.result.now c.in_ok-reduced.reduced
-    (ap (λ o. length o.names) c.in_ok-ordered.ensures.ok ∙ order-length c.args.names.now.names c.requires.kb.0 c.requires.kb.1.within.numbering ∙ sym c.len-tasks.ensures)
+pub write_certificate-requires-clause-reduced : goal.write_certificate-requires-clause-reduced
+write_certificate-requires-clause-reduced c =
+    can_write false c.len-tasks.result (length c.in_ok-ordered.ordered.names) c.args.settings.now.states c.args.list.now c.deref.result.now c.in_ok-reduced.reduced
+    (ap (λ o. length o.names) c.in_ok-ordered.ensures.ok ∙ order-length c.args.names.now.names c.requires.ready.kb_of.0 c.requires.ready.kb_of.1.within.numbering ∙ sym c.len-tasks.ensures)
     (c.deref.ensures.value ∙ c.in_ok-constraints.ensures) c.in_ok-reduced.ensures.ok
 
 pub returns-clause-text : goal.returns-clause-text

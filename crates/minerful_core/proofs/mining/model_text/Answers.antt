@@ -1,5 +1,5 @@
-use Rattle.minerful_core.proofs.Models.{as_many_decisions, as_many_witnesses, reduced_example_over, witnesses_over}
-use Rattle.std.proofs.Common.{[], refl, ap, sym, ◌∙◌, length}
+use Rattle.minerful_core.proofs.Models.{can_write}
+use Rattle.std.proofs.Common.{[], ap, sym, ◌∙◌, length}
 use Rattle.std.proofs.lemmas.Result.{IfOk-weaker}
 use Rattle.event_log.specs.Logs.{named}
 use Rattle.minerful_core.specs.Outcome.{IsReductionBy, model_text, text_of_log}
@@ -22,26 +22,12 @@ returns-in_err-reduced-clause-refusal c =
 pub write_model-requires-clause-made : goal.write_model-requires-clause-made
 write_model-requires-clause-made c =
     made_in_order (length c.args.names.now.names) (length c.in_ok-ordered.ordered.names) c.args.list.now
-    (ap (λ o. length o.names) c.in_ok-ordered.ensures.ok ∙ order-length c.args.names.now.names c.requires.kb.0 c.requires.kb.1.within.numbering) c.requires.made
+    (ap (λ o. length o.names) c.in_ok-ordered.ensures.ok ∙ order-length c.args.names.now.names c.requires.kb_of.0 c.requires.kb_of.1.within.numbering) c.requires.made
 
-pub write_model-requires-clause-decisions : goal.write_model-requires-clause-decisions
-write_model-requires-clause-decisions c =
-    as_many_decisions c.args.settings.now.keep c.len.result c.len.result c.args.settings.now.states c.args.list.now c.deref.result.now c.in_ok-reduced.reduced refl (c.deref.ensures.value ∙ c.in_ok-constraints.ensures) c.in_ok-reduced.ensures.ok
-
-pub write_model-requires-clause-witnesses : goal.write_model-requires-clause-witnesses
-write_model-requires-clause-witnesses c =
-    as_many_witnesses c.args.settings.now.keep c.len.result c.len.result c.args.settings.now.states c.args.list.now c.deref.result.now c.in_ok-reduced.reduced refl (c.deref.ensures.value ∙ c.in_ok-constraints.ensures) c.in_ok-reduced.ensures.ok
-
-pub write_model-requires-clause-witness : goal.write_model-requires-clause-witness
-write_model-requires-clause-witness c =
-    witnesses_over c.args.settings.now.keep c.len.result (length c.in_ok-ordered.ordered.names) c.args.settings.now.states c.args.list.now c.deref.result.now c.in_ok-reduced.reduced
-    (ap (λ o. length o.names) c.in_ok-ordered.ensures.ok ∙ order-length c.args.names.now.names c.requires.kb.0 c.requires.kb.1.within.numbering ∙ sym c.len.ensures)
-    (c.deref.ensures.value ∙ c.in_ok-constraints.ensures) c.in_ok-reduced.ensures.ok
-
-pub write_model-requires-clause-example : goal.write_model-requires-clause-example
-write_model-requires-clause-example c =
-    reduced_example_over c.args.settings.now.keep c.len.result (length c.in_ok-ordered.ordered.names) c.args.settings.now.states c.args.list.now c.deref.result.now c.in_ok-reduced.reduced
-    (ap (λ o. length o.names) c.in_ok-ordered.ensures.ok ∙ order-length c.args.names.now.names c.requires.kb.0 c.requires.kb.1.within.numbering ∙ sym c.len.ensures)
+pub write_model-requires-clause-reduced : goal.write_model-requires-clause-reduced
+write_model-requires-clause-reduced c =
+    can_write c.args.settings.now.keep c.len.result (length c.in_ok-ordered.ordered.names) c.args.settings.now.states c.args.list.now c.deref.result.now c.in_ok-reduced.reduced
+    (ap (λ o. length o.names) c.in_ok-ordered.ensures.ok ∙ order-length c.args.names.now.names c.requires.kb_of.0 c.requires.kb_of.1.within.numbering ∙ sym c.len.ensures)
     (c.deref.ensures.value ∙ c.in_ok-constraints.ensures) c.in_ok-reduced.ensures.ok
 
 pub returns-clause-text : goal.returns-clause-text

@@ -1,11 +1,8 @@
 use Rattle.std.proofs.Common.{ap, refl, subst, sym, ◌∙◌}
-use Rattle.std.specs.Prelude.{◌≤◌, length}
-use Rattle.list_dfa.specs.Lists.{IsNarrowList}
-use Rattle.monitor_lines.specs.Watching.{most_constraints}
 use Rattle.event_log.specs.Logs.{in_byte_order}
-use Rattle.minerful_core.specs.Models.{symbols_of}
+use Rattle.minerful_core.specs.Outcome.{IsWatchable}
 use Rattle.minerful_core.proofs.Comparing.{asks_both}
-use Rattle.minerful_core.proofs.Monitored.{memory_cause, memory_leaves, prints_all, unopened_cause, unopened_leaves, unread_cause, unread_leaves, untried_cause, untried_leaves, watched_cause, watched_leaves}
+use Rattle.minerful_core.proofs.Monitored.{prints_all, unopened_cause, unopened_leaves, unread_cause, unread_leaves, untried_cause, untried_leaves, watched_cause, watched_leaves}
 use Rattle.minerful_core.proofs.Refusing.{handed_on}
 use Rattle.minerful_core.proofs.Renaming.{HasNames, few_names_of, has-own, made_over}
 use Rattle.minerful_core.proofs.monitoring.monitor_log.Goals as goal
@@ -87,10 +84,8 @@ returns-in_err-watch-clause-left g c =
     (ap (λ o. o.names) c.in_ok-names.ensures.ok ∙ ap in_byte_order c.names.ensures) (c.deref-2.ensures.value ∙ c.in_ok-list.ensures.list)
     (g.I.Inputs.state c.read_known_model.new.inputs) (g.I.Inputs.state c.open_named.new.inputs) c.in_ok-open_named.ensures.opened c.in_ok-model.ensures.contents
     (g.O.Sink.state c.args.out.now) (g.O.Sink.state c.watch.new.out)
-    (record {
-      few = subst (λ l. length l ≤ most_constraints) (c.deref.ensures.value ∙ sym c.deref-2.ensures.value) c.in_ok-monitor.ensures.few;
-      narrow = subst (λ l. IsNarrowList (symbols_of c.in_ok-names.names.names) c.args.settings.now.states l) (c.deref.ensures.value ∙ sym c.deref-2.ensures.value) c.in_ok-monitor.ensures.narrow;
-    })
+    (subst (IsWatchable c.args.settings.now.states c.in_ok-names.names.names) (c.deref.ensures.value ∙ sym c.deref-2.ensures.value)
+    (record { few = c.in_ok-monitor.ensures.few; narrow = c.in_ok-monitor.ensures.narrow }))
     c.standard.result c.standard.ensures c.in_ok-model.ensures.model c.in_err-watch.ensures.keeps c.in_err-watch.field-0.0 c.in_err-watch.ensures.cause)
 
 pub returns-clause-lines : goal.returns-clause-lines
@@ -99,10 +94,8 @@ returns-clause-lines g c =
     (ap (λ o. o.names) c.in_ok-names.ensures.ok ∙ ap in_byte_order c.names.ensures) (c.deref-2.ensures.value ∙ c.in_ok-list.ensures.list)
     (g.I.Inputs.state c.read_known_model.new.inputs) (g.I.Inputs.state c.open_named.new.inputs) c.in_ok-open_named.ensures.opened c.in_ok-model.ensures.contents
     (g.O.Sink.state c.args.out.now) (g.O.Sink.state c.watch.new.out)
-    (record {
-      few = subst (λ l. length l ≤ most_constraints) (c.deref.ensures.value ∙ sym c.deref-2.ensures.value) c.in_ok-monitor.ensures.few;
-      narrow = subst (λ l. IsNarrowList (symbols_of c.in_ok-names.names.names) c.args.settings.now.states l) (c.deref.ensures.value ∙ sym c.deref-2.ensures.value) c.in_ok-monitor.ensures.narrow;
-    })
+    (subst (IsWatchable c.args.settings.now.states c.in_ok-names.names.names) (c.deref.ensures.value ∙ sym c.deref-2.ensures.value)
+    (record { few = c.in_ok-monitor.ensures.few; narrow = c.in_ok-monitor.ensures.narrow }))
     c.standard.result c.standard.ensures c.in_ok-model.ensures.model c.in_ok-watch.ensures.all
 
 pub returns-clause-opens : goal.returns-clause-opens

@@ -56,87 +56,157 @@ const ORDERS: &[u8] = b"\xEF\xBB\xBFcase,activity,time
 2,Pay,2024-01-01T13:00:00
 ";
 
+const IN_ORDER: &str = "Register, new|Check|Pay|;Register, new|Check|Pay|;";
+
+/// Texts, the column that orders each and how, and the traces of its log.
+const LOGS: &[(&[u8], Option<&str>, OrderAs, &str)] = &[
+    (ORDERS, None, OrderAs::Text, IN_ORDER),
+    (ORDERS, Some("time"), OrderAs::Text, IN_ORDER),
+    (
+        b"case,activity,activity\n1,a,b,x",
+        None,
+        OrderAs::Text,
+        "a|;",
+    ),
+    (
+        b"case,activity,n\n1,a,10\n1,b,9\n1,c,-1\n",
+        Some("n"),
+        OrderAs::Text,
+        "c|a|b|;",
+    ),
+    (
+        b"case,activity,n\n1,a,10\n1,b,9\n1,c,-1\n",
+        Some("n"),
+        OrderAs::Number,
+        "c|b|a|;",
+    ),
+    (
+        b"case,activity,n\n1,a,1\n2,b,0\n1,c,0\n1,d,1\n1,e,01\n",
+        Some("n"),
+        OrderAs::Number,
+        "c|a|d|e|;b|;",
+    ),
+    (
+        b"case,activity,n\n1,a,999999999999999999\n1,b,-0\n",
+        Some("n"),
+        OrderAs::Number,
+        "b|a|;",
+    ),
+    (b"case,activity\n,\n,a\n", None, OrderAs::Text, "|a|;"),
+    (
+        b"case,activity\n1,\"a\nb\"\n",
+        None,
+        OrderAs::Text,
+        "a\nb|;",
+    ),
+    (
+        b"case,activity\r\n1,a\r\n\r\n\n1,b\r\n",
+        None,
+        OrderAs::Text,
+        "a|b|;",
+    ),
+    (
+        b"case,activity\n1,\"a\n2,b\n",
+        None,
+        OrderAs::Text,
+        "a\n2,b\n|;",
+    ),
+    (b"case,activity\n", None, OrderAs::Text, ""),
+    (
+        b"b,case,activity\nz,2,a\nz,1,b\nz,2,c\n",
+        None,
+        OrderAs::Text,
+        "a|c|;b|;",
+    ),
+    (
+        b"case,activity,n\n1,b,x\n1,a,x\n1,c,w\n",
+        Some("n"),
+        OrderAs::Text,
+        "c|b|a|;",
+    ),
+    (
+        b"\xEF\xBB\xBF\xEF\xBB\xBFcase,activity\n1,a\n",
+        None,
+        OrderAs::Text,
+        "a|;",
+    ),
+];
+
 #[test]
 fn logs_of_texts(rt: HostRuntime) -> Result<(), Fail> {
-    let orders = "Register, new|Check|Pay|;Register, new|Check|Pay|;";
-    let cases: [(&[u8], Option<&str>, OrderAs, &str); 15] = [
-        (ORDERS, None, OrderAs::Text, orders),
-        (ORDERS, Some("time"), OrderAs::Text, orders),
-        (
-            b"case,activity,activity\n1,a,b,x",
-            None,
-            OrderAs::Text,
-            "a|;",
-        ),
-        (
-            b"case,activity,n\n1,a,10\n1,b,9\n1,c,-1\n",
-            Some("n"),
-            OrderAs::Text,
-            "c|a|b|;",
-        ),
-        (
-            b"case,activity,n\n1,a,10\n1,b,9\n1,c,-1\n",
-            Some("n"),
-            OrderAs::Number,
-            "c|b|a|;",
-        ),
-        (
-            b"case,activity,n\n1,a,1\n2,b,0\n1,c,0\n1,d,1\n1,e,01\n",
-            Some("n"),
-            OrderAs::Number,
-            "c|a|d|e|;b|;",
-        ),
-        (
-            b"case,activity,n\n1,a,999999999999999999\n1,b,-0\n",
-            Some("n"),
-            OrderAs::Number,
-            "b|a|;",
-        ),
-        (b"case,activity\n,\n,a\n", None, OrderAs::Text, "|a|;"),
-        (
-            b"case,activity\n1,\"a\nb\"\n",
-            None,
-            OrderAs::Text,
-            "a\nb|;",
-        ),
-        (
-            b"case,activity\r\n1,a\r\n\r\n\n1,b\r\n",
-            None,
-            OrderAs::Text,
-            "a|b|;",
-        ),
-        (
-            b"case,activity\n1,\"a\n2,b\n",
-            None,
-            OrderAs::Text,
-            "a\n2,b\n|;",
-        ),
-        (b"case,activity\n", None, OrderAs::Text, ""),
-        (
-            b"b,case,activity\nz,2,a\nz,1,b\nz,2,c\n",
-            None,
-            OrderAs::Text,
-            "a|c|;b|;",
-        ),
-        (
-            b"case,activity,n\n1,b,x\n1,a,x\n1,c,w\n",
-            Some("n"),
-            OrderAs::Text,
-            "c|b|a|;",
-        ),
-        (
-            b"\xEF\xBB\xBF\xEF\xBB\xBFcase,activity\n1,a\n",
-            None,
-            OrderAs::Text,
-            "a|;",
-        ),
-    ];
-    for (text, order, order_as, expected) in cases {
-        let written = traces(rt.alloc(), text, order, order_as, &Limits::standard())?;
-        assert_eq!(rt; written.as_str(), expected);
+    for (text, order, order_as, expected) in LOGS {
+        let written = traces(rt.alloc(), text, *order, *order_as, &Limits::standard())?;
+        assert_eq!(rt; written.as_str(), *expected);
     }
     Ok(())
 }
+
+/// Texts, the column that orders each by numbers, and what is refused of it.
+const REFUSED: &[(&[u8], Option<&str>, Refusal)] = &[
+    (b"", None, Refusal::Header { which: 1 }),
+    (b"case", None, Refusal::Header { which: 2 }),
+    (b"case,activity\n", Some("n"), Refusal::Header { which: 3 }),
+    (
+        b"case,activity\n1,a\n2\n",
+        None,
+        Refusal::ShortRow { row: 3 },
+    ),
+    (
+        b"case,activity\n\xFF,a\n",
+        None,
+        Refusal::RowText { row: 2 },
+    ),
+    (
+        b"case,activity\n1,\xFF\n",
+        None,
+        Refusal::RowText { row: 2 },
+    ),
+    (
+        b"case,activity\n1,a\n1,a\n1,a\n1,a\n",
+        None,
+        Refusal::Events { limit: 3 },
+    ),
+    (
+        b"case,activity\n1,a\n2,a\n3,a\n",
+        None,
+        Refusal::Traces { limit: 2 },
+    ),
+    (
+        b"case,activity\n1,a\n1,b\n1,c\n",
+        None,
+        Refusal::Activities { limit: 2 },
+    ),
+    (
+        b"\xEF\xBB\xBF\xEF\xBB\xBF\xEF\xBB\xBFcase,activity\n1,a\n",
+        None,
+        Refusal::Header { which: 1 },
+    ),
+    (
+        b"case,activity,n\n1,a,x1\n",
+        Some("n"),
+        Refusal::RowOrder { row: 2 },
+    ),
+    (
+        b"case,activity,n\n1,a,1\n1,a,1234567890123456789\n",
+        Some("n"),
+        Refusal::RowOrder { row: 3 },
+    ),
+    (
+        b"case,activity,n\n1,a,-\n",
+        Some("n"),
+        Refusal::RowOrder { row: 2 },
+    ),
+    (
+        b"case,activity,n\n1,a,+1\n",
+        Some("n"),
+        Refusal::RowOrder { row: 2 },
+    ),
+    (
+        b"case,activity,n\n1,a,\n",
+        Some("n"),
+        Refusal::RowOrder { row: 2 },
+    ),
+];
 
 #[test]
 fn texts_without_a_log(rt: HostRuntime) -> Result<(), Fail> {
@@ -146,74 +216,9 @@ fn texts_without_a_log(rt: HostRuntime) -> Result<(), Fail> {
         activities: 2,
         ..Limits::standard()
     };
-    let cases: [(&[u8], Option<&str>, Refusal); 15] = [
-        (b"", None, Refusal::Header { which: 1 }),
-        (b"case", None, Refusal::Header { which: 2 }),
-        (b"case,activity\n", Some("n"), Refusal::Header { which: 3 }),
-        (
-            b"case,activity\n1,a\n2\n",
-            None,
-            Refusal::ShortRow { row: 3 },
-        ),
-        (
-            b"case,activity\n\xFF,a\n",
-            None,
-            Refusal::RowText { row: 2 },
-        ),
-        (
-            b"case,activity\n1,\xFF\n",
-            None,
-            Refusal::RowText { row: 2 },
-        ),
-        (
-            b"case,activity\n1,a\n1,a\n1,a\n1,a\n",
-            None,
-            Refusal::Events { limit: 3 },
-        ),
-        (
-            b"case,activity\n1,a\n2,a\n3,a\n",
-            None,
-            Refusal::Traces { limit: 2 },
-        ),
-        (
-            b"case,activity\n1,a\n1,b\n1,c\n",
-            None,
-            Refusal::Activities { limit: 2 },
-        ),
-        (
-            b"\xEF\xBB\xBF\xEF\xBB\xBF\xEF\xBB\xBFcase,activity\n1,a\n",
-            None,
-            Refusal::Header { which: 1 },
-        ),
-        (
-            b"case,activity,n\n1,a,x1\n",
-            Some("n"),
-            Refusal::RowOrder { row: 2 },
-        ),
-        (
-            b"case,activity,n\n1,a,1\n1,a,1234567890123456789\n",
-            Some("n"),
-            Refusal::RowOrder { row: 3 },
-        ),
-        (
-            b"case,activity,n\n1,a,-\n",
-            Some("n"),
-            Refusal::RowOrder { row: 2 },
-        ),
-        (
-            b"case,activity,n\n1,a,+1\n",
-            Some("n"),
-            Refusal::RowOrder { row: 2 },
-        ),
-        (
-            b"case,activity,n\n1,a,\n",
-            Some("n"),
-            Refusal::RowOrder { row: 2 },
-        ),
-    ];
-    for (text, order, refusal) in cases {
-        let read = traces(rt.alloc(), text, order, OrderAs::Number, &limits);
-        assert_eq!(rt; read.err(), Some(refusal));
+    for (text, order, refusal) in REFUSED {
+        let read = traces(rt.alloc(), text, *order, OrderAs::Number, &limits);
+        assert_eq!(rt; read.err(), Some(*refusal));
     }
     Ok(())
 }

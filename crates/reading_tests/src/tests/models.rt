@@ -4,52 +4,54 @@ use std::alloc::Global;
 use std::test::Fail;
 use template_core::{Constraint, Kind};
 
+/// Texts, and what is refused of each.
+const REFUSED: &[(&str, Refusal)] = &[
+    ("{", Refusal::NotJson),
+    ("[]", Refusal::ModelShape { at: 0 }),
+    (
+        r#"{"constraints":[],"tasks":[1]}"#,
+        Refusal::ModelShape { at: 0 },
+    ),
+    (
+        r#"{"constraints":[{"template":"Exactly2","parameters":[["a"]]}],"version":3}"#,
+        Refusal::ModelShape { at: 0 },
+    ),
+    (
+        r#"{"constraints":[{"template":"Init","parameters":[["a"]]},7]}"#,
+        Refusal::ModelShape { at: 2 },
+    ),
+    (
+        r#"{"constraints":[{"template":"Respond","parameters":[["a"],["b"]]}]}"#,
+        Refusal::UnknownTemplate { at: 1 },
+    ),
+    (
+        r#"{"constraints":[{"template":"Exactly2","parameters":[["a"]]}]}"#,
+        Refusal::UnknownTemplate { at: 1 },
+    ),
+    (
+        r#"{"constraints":[{"template":"Exactly0","parameters":[["a"]]}],"version":2}"#,
+        Refusal::UnknownTemplate { at: 1 },
+    ),
+    (
+        r#"{"constraints":[{"template":"Response","parameters":[["a"]]}]}"#,
+        Refusal::Parameters { at: 1 },
+    ),
+    (
+        r#"{"constraints":[{"template":"Response","parameters":[["a","b"],["b"]]}]}"#,
+        Refusal::Parameters { at: 1 },
+    ),
+    (
+        r#"{"constraints":[{"template":"Response","parameters":[["a"],["a"]]}]}"#,
+        Refusal::SameParameter { at: 1 },
+    ),
+];
+
 #[test]
 fn texts_that_are_refused(rt: HostRuntime) -> Result<(), Fail> {
-    let cases = [
-        ("{", Refusal::NotJson),
-        ("[]", Refusal::ModelShape { at: 0 }),
-        (
-            r#"{"constraints":[],"tasks":[1]}"#,
-            Refusal::ModelShape { at: 0 },
-        ),
-        (
-            r#"{"constraints":[{"template":"Exactly2","parameters":[["a"]]}],"version":3}"#,
-            Refusal::ModelShape { at: 0 },
-        ),
-        (
-            r#"{"constraints":[{"template":"Init","parameters":[["a"]]},7]}"#,
-            Refusal::ModelShape { at: 2 },
-        ),
-        (
-            r#"{"constraints":[{"template":"Respond","parameters":[["a"],["b"]]}]}"#,
-            Refusal::UnknownTemplate { at: 1 },
-        ),
-        (
-            r#"{"constraints":[{"template":"Exactly2","parameters":[["a"]]}]}"#,
-            Refusal::UnknownTemplate { at: 1 },
-        ),
-        (
-            r#"{"constraints":[{"template":"Exactly0","parameters":[["a"]]}],"version":2}"#,
-            Refusal::UnknownTemplate { at: 1 },
-        ),
-        (
-            r#"{"constraints":[{"template":"Response","parameters":[["a"]]}]}"#,
-            Refusal::Parameters { at: 1 },
-        ),
-        (
-            r#"{"constraints":[{"template":"Response","parameters":[["a","b"],["b"]]}]}"#,
-            Refusal::Parameters { at: 1 },
-        ),
-        (
-            r#"{"constraints":[{"template":"Response","parameters":[["a"],["a"]]}]}"#,
-            Refusal::SameParameter { at: 1 },
-        ),
-    ];
-    for (text, refusal) in cases {
+    for (text, refusal) in REFUSED {
         assert_eq!(rt;
             read_model(rt.alloc(), text.as_bytes()).err(),
-            Some(refusal)
+            Some(*refusal)
         );
     }
     Ok(())

@@ -4,6 +4,7 @@ ghost use Rattle.strings_log.specs.Feeding.{CanFeed};
 
 use decl_base::{Limits, Name, Refusal};
 use decl_outside::{Inputs, MemInputs};
+use event_log::{Alphabet, Log};
 use std::alloc::Global;
 use std::test::Fail;
 use strings_log::{feed_strings, read_strings};
@@ -18,12 +19,17 @@ fn opened(alloc: Global, bytes: &[u8], per_read: u64, failing: &[u64]) -> Result
     Ok(inputs)
 }
 
+fn read(alloc: Global, text: &str, per_read: u64) -> Result<(Alphabet, Log), Fail>
+    requires { 0 < per_read }
+{
+    let mut inputs = opened(alloc, text.as_bytes(), per_read, &[])?;
+    Ok(read_strings(alloc, &mut inputs, &Limits::standard())?)
+}
+
 #[test]
 fn reads_a_log(rt: HostRuntime) -> Result<(), Fail> {
-    let alloc = rt.alloc();
     for per_read in [1, 9] {
-        let mut inputs = opened(alloc, "bé\r\n\nb\r".as_bytes(), per_read, &[])?;
-        let (names, log) = read_strings(alloc, &mut inputs, &Limits::standard())?;
+        let (names, log) = read(rt.alloc(), "bé\r\n\nb\r", per_read)?;
         assert_eq!(rt; names.len(), 3);
         assert_eq!(rt; names.name(1), "é");
         assert_eq!(rt; log.traces(), 3);
@@ -113,18 +119,14 @@ fn a_read_fails(rt: HostRuntime) -> Result<(), Fail> {
 /// The names and counters are the same, wherever the first read ends.
 #[test]
 fn feeds_a_log(rt: HostRuntime) -> Result<(), Fail> {
-    let alloc = rt.alloc();
     for per_read in 1..11 {
-        let mut inputs = opened(alloc, "aé\r\n\nbé".as_bytes(), per_read, &[])?;
-        let (names, kb) = feed_strings(alloc, &mut inputs, &Limits::standard())?;
+        let mut inputs = opened(rt.alloc(), "aé\r\n\nbé".as_bytes(), per_read, &[])?;
+        let (names, kb) = feed_strings(rt.alloc(), &mut inputs, &Limits::standard())?;
         assert_eq!(rt; names.len(), 3);
-        assert_eq!(rt; names.name(1), "é");
-        assert_eq!(rt; names.name(2), "b");
-        assert_eq!(rt; kb.traces(), 3);
-        assert_eq!(rt; kb.events(), 4);
+        assert_eq!(rt; (names.name(1), names.name(2)), ("é", "b"));
+        assert_eq!(rt; (kb.traces(), kb.events()), (3, 4));
         assert_eq!(rt; kb.unary(1).last, 2);
-        assert_eq!(rt; kb.pair(1, 2).without, 1);
-        assert_eq!(rt; kb.pair(0, 1).next, 1);
+        assert_eq!(rt; (kb.pair(1, 2).without, kb.pair(0, 1).next), (1, 1));
     }
     Ok(())
 }
@@ -132,16 +134,14 @@ fn feeds_a_log(rt: HostRuntime) -> Result<(), Fail> {
 /// Lines that repeat what is known, as the first ones.
 #[test]
 fn feeds_known_characters(rt: HostRuntime) -> Result<(), Fail> {
-    let alloc = rt.alloc();
     for bytes in [b"ab\nab\n".as_slice(), b"ab\r\nab"] {
-        let mut inputs = opened(alloc, bytes, 1, &[])?;
-        let (names, kb) = feed_strings(alloc, &mut inputs, &Limits::standard())?;
+        let mut inputs = opened(rt.alloc(), bytes, 1, &[])?;
+        let (names, kb) = feed_strings(rt.alloc(), &mut inputs, &Limits::standard())?;
         assert_eq!(rt; names.len(), 2);
         assert_eq!(rt; kb.traces(), 2);
-        assert_eq!(rt; kb.unary(0).first, 2);
-        assert_eq!(rt; kb.unary(1).last, 2);
-        assert_eq!(rt; kb.pair(0, 1).next, 2);
-        assert_eq!(rt; kb.pair(0, 1).without, 0);
+        assert_eq!(rt; (kb.unary(0).first, kb.unary(1).last), (2, 2));
+        let pair = kb.pair(0, 1);
+        assert_eq!(rt; (pair.next, pair.without), (2, 0));
     }
     Ok(())
 }
@@ -149,11 +149,9 @@ fn feeds_known_characters(rt: HostRuntime) -> Result<(), Fail> {
 /// An activity that comes late is missing in the traces before it.
 #[test]
 fn feeds_a_late_name(rt: HostRuntime) -> Result<(), Fail> {
-    let alloc = rt.alloc();
-    let mut inputs = opened(alloc, b"ab\nc", 1, &[])?;
-    let (names, kb) = feed_strings(alloc, &mut inputs, &Limits::standard())?;
+    let mut inputs = opened(rt.alloc(), b"ab\nc", 1, &[])?;
+    let (names, kb) = feed_strings(rt.alloc(), &mut inputs, &Limits::standard())?;
     assert_eq!(rt; names.len(), 3);
-    assert_eq!(rt; kb.pair(0, 2).without, 1);
-    assert_eq!(rt; kb.pair(2, 0).without, 1);
+    assert_eq!(rt; (kb.pair(0, 2).without, kb.pair(2, 0).without), (1, 1));
     Ok(())
 }

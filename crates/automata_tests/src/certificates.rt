@@ -48,6 +48,14 @@ fn links_of_one(alloc: Global, triples: &[[u32; 3]]) -> Result<Option<Vec<Link>>
         vec![in alloc; 1, 2, 2]?,
         Vec::from_slice(alloc, triples)?,
     );
+    both(alloc, first, second)
+}
+
+fn both(
+    alloc: Global,
+    first: Option<Link>,
+    second: Option<Link>,
+) -> Result<Option<Vec<Link>>, Refusal> {
     match (first, second) {
         (Some(first), Some(second)) => Ok(Some(vec![in alloc; first, second]?)),
         _ => Ok(None),
@@ -98,39 +106,58 @@ fn answer_of_one(
 
 #[test]
 fn checks_are_tried_in_order(rt: HostRuntime) -> Result<(), Fail> {
-    let alloc = rt.alloc();
-    let right = answer_of_one(alloc, &[0, 0], &[0], false, &TRIPLES)?;
-    assert_eq!(rt; right, Some(Verdict::Yes));
-    let example = answer_of_one(alloc, &[0, 0], &[], false, &TRIPLES)?;
-    assert_eq!(rt; example, Some(Verdict::No { check: 1, at: 1 }));
-    let witness = answer_of_one(alloc, &[0], &[0], false, &TRIPLES)?;
-    assert_eq!(rt; witness, Some(Verdict::No { check: 2, at: 2 }));
-    let open = answer_of_one(alloc, &[0, 0], &[0], false, &TRIPLES[..2])?;
-    assert_eq!(rt; open, Some(Verdict::No { check: 3, at: 2 }));
-    let conflict = answer_of_one(alloc, &[0, 0], &[0], true, &TRIPLES)?;
-    assert_eq!(rt; conflict, Some(Verdict::No { check: 4, at: 1 }));
-    let all = answer_of_one(alloc, &[0], &[], true, &TRIPLES[..2])?;
-    assert_eq!(rt; all, Some(Verdict::No { check: 1, at: 1 }));
+    // The witness, the example, whether End is dropped for a conflict, the triples, and the check that fails.
+    let open = &TRIPLES[..2];
+    let cases: [(&[u32], &[u32], bool, &[[u32; 3]], Verdict); 6] = [
+        (&[0, 0], &[0], false, &TRIPLES, Verdict::Yes),
+        (
+            &[0, 0],
+            &[],
+            false,
+            &TRIPLES,
+            Verdict::No { check: 1, at: 1 },
+        ),
+        (&[0], &[0], false, &TRIPLES, Verdict::No { check: 2, at: 2 }),
+        (&[0, 0], &[0], false, open, Verdict::No { check: 3, at: 2 }),
+        (
+            &[0, 0],
+            &[0],
+            true,
+            &TRIPLES,
+            Verdict::No { check: 4, at: 1 },
+        ),
+        (&[0], &[], true, open, Verdict::No { check: 1, at: 1 }),
+    ];
+    for (witness, example, conflict, triples, want) in cases {
+        let answer = answer_of_one(rt.alloc(), witness, example, conflict, triples)?;
+        assert_eq!(rt; answer, Some(want));
+    }
     Ok(())
 }
 
 #[test]
 fn parts_that_have_no_form(rt: HostRuntime) -> Result<(), Fail> {
+    let cases: [(&[u32], &[[u32; 3]]); 5] = [
+        // The second link's triples don't ascend, or one isn't of its states.
+        (&[0, 0], &[[0, 0, 0], [0, 0, 0]]),
+        (&[0, 0], &[[0, 0, 3]]),
+        // One isn't of a state of the link before, or of the table.
+        (&[0, 0], &[[2, 0, 0]]),
+        (&[0, 0], &[[0, 3, 0]]),
+        // A trace isn't over the symbols.
+        (&[1], &TRIPLES),
+    ];
+    for (witness, triples) in cases {
+        let answer = answer_of_one(rt.alloc(), witness, &[0], false, triples)?;
+        assert_eq!(rt; answer, None);
+    }
+    Ok(())
+}
+
+/// A row is too short, and a column is none of a row.
+#[test]
+fn links_that_have_no_form(rt: HostRuntime) -> Result<(), Fail> {
     let alloc = rt.alloc();
-    // The second link's triples don't ascend, or one isn't of its states.
-    let twice = answer_of_one(alloc, &[0, 0], &[0], false, &[[0, 0, 0], [0, 0, 0]])?;
-    assert_eq!(rt; twice, None);
-    let no_state = answer_of_one(alloc, &[0, 0], &[0], false, &[[0, 0, 3]])?;
-    assert_eq!(rt; no_state, None);
-    // One isn't of a state of the link before, or of the table.
-    let before = answer_of_one(alloc, &[0, 0], &[0], false, &[[2, 0, 0]])?;
-    assert_eq!(rt; before, None);
-    let table = answer_of_one(alloc, &[0, 0], &[0], false, &[[0, 3, 0]])?;
-    assert_eq!(rt; table, None);
-    // A trace isn't over the symbols.
-    let event = answer_of_one(alloc, &[1], &[0], false, &TRIPLES)?;
-    assert_eq!(rt; event, None);
-    // A row is too short, and a column is none of a row.
     let row = Link::of(
         vec![in alloc; true, true]?,
         vec![in alloc; 0]?,
@@ -148,7 +175,56 @@ fn parts_that_have_no_form(rt: HostRuntime) -> Result<(), Fail> {
     Ok(())
 }
 
-/// Over a, b and c the model is AtMostOne(a), Init(a), and Init(b) is dropped. To both links b and c are one column.
+/// Over a, b and c the model is AtMostOne(a), Init(a), and Init(b) is dropped.
+fn claim_of_three(alloc: Global, conflict: bool) -> Result<Option<Claim>, Refusal> {
+    let init = Dropped {
+        constraint: one(Kind::Init, 1),
+        conflict,
+    };
+    Ok(Claim::of(
+        3,
+        vec![in alloc; one(Kind::AtMostOne, 0), one(Kind::Init, 0)]?,
+        vec![in alloc; Trace::of(alloc, &[0, 0])?, Trace::of(alloc, &[])?]?,
+        vec![in alloc; init]?,
+        Trace::of(alloc, &[0])?,
+    ))
+}
+
+/// The links of its model: to both, b and c are one column.
+fn links_of_three(alloc: Global) -> Result<Option<Vec<Link>>, Refusal> {
+    let first = Link::of(
+        vec![in alloc; true, true, false]?,
+        vec![in alloc; 0, 1, 1]?,
+        vec![in alloc; 1, 0, 2, 1, 2, 2]?,
+        vec![in alloc; [0, 0, 0], [0, 1, 1], [0, 2, 2]]?,
+    );
+    // The empty trace, one a at the front, and all else.
+    let second = Link::of(
+        vec![in alloc; false, true, false]?,
+        vec![in alloc; 0, 1, 1]?,
+        vec![in alloc; 1, 2, 2, 1, 2, 2]?,
+        Vec::from_slice(
+            alloc,
+            &[
+                [0, 0, 0],
+                [0, 2, 2],
+                [1, 1, 1],
+                [1, 2, 2],
+                [2, 1, 2],
+                [2, 2, 2],
+            ],
+        )?,
+    );
+    both(alloc, first, second)
+}
+
+fn pairs_of_three(alloc: Global) -> Result<Option<Vec<Pairs>>, Refusal> {
+    match Pairs::of(vec![in alloc; [0, 0], [1, 2], [2, 1], [2, 2]]?) {
+        Some(pairs) => Ok(Some(vec![in alloc; pairs]?)),
+        None => Ok(None),
+    }
+}
+
 #[test]
 fn conflicts_and_symbols_of_one_column(rt: HostRuntime) -> Result<(), Fail> {
     let alloc = rt.alloc();
@@ -156,46 +232,9 @@ fn conflicts_and_symbols_of_one_column(rt: HostRuntime) -> Result<(), Fail> {
         (true, Verdict::Yes),
         (false, Verdict::No { check: 4, at: 1 }),
     ] {
-        let init = Dropped {
-            constraint: one(Kind::Init, 1),
-            conflict,
-        };
-        let claim = Claim::of(
-            3,
-            vec![in alloc; one(Kind::AtMostOne, 0), one(Kind::Init, 0)]?,
-            vec![in alloc; Trace::of(alloc, &[0, 0])?, Trace::of(alloc, &[])?]?,
-            vec![in alloc; init]?,
-            Trace::of(alloc, &[0])?,
-        );
-        let first = Link::of(
-            vec![in alloc; true, true, false]?,
-            vec![in alloc; 0, 1, 1]?,
-            vec![in alloc; 1, 0, 2, 1, 2, 2]?,
-            vec![in alloc; [0, 0, 0], [0, 1, 1], [0, 2, 2]]?,
-        );
-        // The empty trace, one a at the front, and all else.
-        let second = Link::of(
-            vec![in alloc; false, true, false]?,
-            vec![in alloc; 0, 1, 1]?,
-            vec![in alloc; 1, 2, 2, 1, 2, 2]?,
-            vec![in alloc;
-                [0, 0, 0],
-                [0, 2, 2],
-                [1, 1, 1],
-                [1, 2, 2],
-                [2, 1, 2],
-                [2, 2, 2],
-            ]?,
-        );
-        let links = match (first, second) {
-            (Some(first), Some(second)) => Some(vec![in alloc; first, second]?),
-            _ => None,
-        };
-        let pairs = match Pairs::of(vec![in alloc; [0, 0], [1, 2], [2, 1], [2, 2]]?) {
-            Some(pairs) => Some(vec![in alloc; pairs]?),
-            None => None,
-        };
-        assert_eq!(rt; answer(claim, links, pairs), Some(want));
+        let claim = claim_of_three(alloc, conflict)?;
+        let answer = answer(claim, links_of_three(alloc)?, pairs_of_three(alloc)?);
+        assert_eq!(rt; answer, Some(want));
     }
     Ok(())
 }

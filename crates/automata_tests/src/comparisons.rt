@@ -50,8 +50,13 @@ fn models_are_compared(rt: HostRuntime) -> Result<(), Fail> {
     assert_eq!(rt; weaker.relation(), Relation::Weaker);
     let equal = compare(alloc, &chain, &chain, 3, STATES)?;
     assert_eq!(rt; equal.relation(), Relation::Equal);
+    Ok(())
+}
+
+#[test]
+fn neither_model_is_stronger(rt: HostRuntime) -> Result<(), Fail> {
     let neither = compare(
-        alloc,
+        rt.alloc(),
         &[of_one(Kind::Init)],
         &[of_one(Kind::End)],
         2,

@@ -40,43 +40,104 @@ fn end() -> Table
     }
 }
 
+// The first activity comes.
+fn participation() -> Table
+    ensures table { IsTable result }
+    ensures states { result.states ≡ 2 }
+{
+    let mut next = [[1; 3]; 12];
+    next[0] = [1, 0, 0];
+    let mut accepting = [false; 12];
+    accepting[1] = true;
+    Table {
+        states: 2,
+        start: 0,
+        next,
+        accepting,
+    }
+}
+
+// After the last of the first activity stands one of the second.
+fn response() -> Table
+    ensures table { IsTable result }
+    ensures states { result.states ≡ 2 }
+{
+    let mut next = [[1, 0, 0]; 12];
+    next[1] = [1, 0, 1];
+    let mut accepting = [false; 12];
+    accepting[0] = true;
+    Table {
+        states: 2,
+        start: 0,
+        next,
+        accepting,
+    }
+}
+
+const BEGINS: Constraint = Constraint {
+    kind: Kind::Init,
+    first: 0,
+    second: 0,
+};
+
+const ENDS: Constraint = Constraint {
+    kind: Kind::End,
+    first: 1,
+    second: 1,
+};
+
+const ANSWERED: Constraint = Constraint {
+    kind: Kind::Response,
+    first: 3,
+    second: 7,
+};
+
+const COMES: Constraint = Constraint {
+    kind: Kind::Participation,
+    first: 500,
+    second: 500,
+};
+
+fn is_trace(found: &Option<Trace>, events: &[u32]) -> bool {
+    match found {
+        Some(trace) => trace.events() == events,
+        None => false,
+    }
+}
+
+#[test]
+fn intersections(rt: HostRuntime) -> Result<(), Fail> {
+    let alloc = rt.alloc();
+    let all = Dfa::everything(alloc, 3)?;
+    let once = meet(alloc, &all, &init(), &BEGINS)?;
+    let last = meet(alloc, &all, &end(), &ENDS)?;
+    assert_eq!(rt; (all.columns(), once.columns(), last.columns()), (1, 2, 2));
+    assert_eq!(rt; intersection(alloc, &once, &last)?.states(), 5);
+    assert!(rt; is_trace(&first_outside(alloc, &last, &once)?, &[1]));
+    assert!(rt; first_outside(alloc, &once, &all)?.is_none());
+    Ok(())
+}
+
 #[test]
 fn least_traces(rt: HostRuntime) -> Result<(), Fail> {
     let alloc = rt.alloc();
-    let begins = Constraint {
-        kind: Kind::Init,
-        first: 0,
-        second: 0,
-    };
-    let ends = Constraint {
-        kind: Kind::End,
-        first: 1,
-        second: 1,
-    };
-    let all = Dfa::everything(alloc, 3)?;
-    let once = meet(alloc, &all, &init(), &begins)?;
-    let last = meet(alloc, &all, &end(), &ends)?;
-    assert_eq!(rt; (all.columns(), once.columns(), last.columns()), (1, 2, 2));
-    assert_eq!(rt; intersection(alloc, &once, &last)?.states(), 5);
-    match first_outside(alloc, &last, &once)? {
-        Some(trace) => assert_eq!(rt; trace.events(), [1].as_slice()),
-        None => assert!(rt; false),
-    }
-    assert!(rt; first_outside(alloc, &once, &all)?.is_none());
-    let both = meet(alloc, &once, &end(), &ends)?;
+    let once = meet(alloc, &Dfa::everything(alloc, 3)?, &init(), &BEGINS)?;
+    let both = meet(alloc, &once, &end(), &ENDS)?;
     assert_eq!(rt; (both.states(), both.columns()), (5, 3));
-    match first_trace(alloc, &both, &Want::Accepted)? {
-        Some(trace) => assert_eq!(rt; trace.events(), [0, 1].as_slice()),
-        None => assert!(rt; false),
-    }
+    assert!(rt; is_trace(&first_trace(alloc, &both, &Want::Accepted)?, &[0, 1]));
     let beside = Want::Beside {
         table: end(),
-        constraint: ends,
+        constraint: ENDS,
     };
-    match first_trace(alloc, &once, &beside)? {
-        Some(trace) => assert_eq!(rt; trace.events(), [0].as_slice()),
-        None => assert!(rt; false),
-    }
+    assert!(rt; is_trace(&first_trace(alloc, &once, &beside)?, &[0]));
+    Ok(())
+}
+
+// No trace begins with 0 and with 1.
+#[test]
+fn nothing_is_accepted(rt: HostRuntime) -> Result<(), Fail> {
+    let alloc = rt.alloc();
+    let once = meet(alloc, &Dfa::everything(alloc, 3)?, &init(), &BEGINS)?;
     let none = meet(
         alloc,
         &once,
@@ -91,24 +152,32 @@ fn least_traces(rt: HostRuntime) -> Result<(), Fail> {
     Ok(())
 }
 
-fn is_trace(found: &Option<Trace>, events: &[u32]) -> bool {
-    match found {
-        Some(trace) => trace.events() == events,
-        None => false,
-    }
+// Of a thousand symbols those that nothing names are one column.
+#[test]
+fn few_columns_of_many_symbols(rt: HostRuntime) -> Result<(), Fail> {
+    let alloc = rt.alloc();
+    let all = Dfa::everything(alloc, 1_000)?;
+    let answering = meet(alloc, &all, &response(), &ANSWERED)?;
+    let once = meet(alloc, &all, &participation(), &COMES)?;
+    assert_eq!(rt;
+        (all.columns(), answering.columns(), once.columns()),
+        (1, 3, 2)
+    );
+    assert!(rt; is_trace(&first_trace(alloc, &once, &Want::Accepted)?, &[500]));
+    let beside = Want::Beside {
+        table: response(),
+        constraint: ANSWERED,
+    };
+    assert!(rt; is_trace(&first_trace(alloc, &once, &beside)?, &[3, 500]));
+    Ok(())
 }
 
 // Of the traces that end with 1.
 #[test]
 fn next_traces(rt: HostRuntime) -> Result<(), Fail> {
     let alloc = rt.alloc();
-    let ends = Constraint {
-        kind: Kind::End,
-        first: 1,
-        second: 1,
-    };
     let all = Dfa::everything(alloc, 3)?;
-    let last = meet(alloc, &all, &end(), &ends)?;
+    let last = meet(alloc, &all, &end(), &ENDS)?;
     let empty = first_after(alloc, &last, &Trace::of(alloc, &[])?)?;
     assert!(rt; is_trace(&empty, &[1]));
     let longer = first_after(alloc, &last, &Trace::of(alloc, &[2, 1])?)?;

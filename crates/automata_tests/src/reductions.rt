@@ -222,6 +222,9 @@ fn is_as_told(
         && reduced.example().events() == example
 }
 
+// Dropped for the chain succession, which has the place 6 below.
+const BY_CHAIN: Decision = Decision::Weaker { by: 6 };
+
 // The candidates of the log of the trace 0, 1 twice, in their order.
 fn pair() -> [(Constraint, Decision); 20] {
     [
@@ -232,32 +235,17 @@ fn pair() -> [(Constraint, Decision); 20] {
         (one(Kind::AtMostOne, 0), Decision::Kept),
         (one(Kind::AtMostOne, 1), Decision::Kept),
         (two(Kind::ChainSuccession, 0, 1), Decision::FirstPass),
-        (
-            two(Kind::AlternateSuccession, 0, 1),
-            Decision::Weaker { by: 6 },
-        ),
-        (two(Kind::Succession, 0, 1), Decision::Weaker { by: 6 }),
-        (two(Kind::CoExistence, 0, 1), Decision::Weaker { by: 6 }),
-        (two(Kind::ChainResponse, 0, 1), Decision::Weaker { by: 6 }),
-        (
-            two(Kind::AlternateResponse, 0, 1),
-            Decision::Weaker { by: 6 },
-        ),
-        (two(Kind::Response, 0, 1), Decision::Weaker { by: 6 }),
-        (two(Kind::ChainPrecedence, 0, 1), Decision::Weaker { by: 6 }),
-        (
-            two(Kind::AlternatePrecedence, 0, 1),
-            Decision::Weaker { by: 6 },
-        ),
-        (two(Kind::Precedence, 0, 1), Decision::Weaker { by: 6 }),
-        (
-            two(Kind::RespondedExistence, 0, 1),
-            Decision::Weaker { by: 6 },
-        ),
-        (
-            two(Kind::RespondedExistence, 1, 0),
-            Decision::Weaker { by: 6 },
-        ),
+        (two(Kind::AlternateSuccession, 0, 1), BY_CHAIN),
+        (two(Kind::Succession, 0, 1), BY_CHAIN),
+        (two(Kind::CoExistence, 0, 1), BY_CHAIN),
+        (two(Kind::ChainResponse, 0, 1), BY_CHAIN),
+        (two(Kind::AlternateResponse, 0, 1), BY_CHAIN),
+        (two(Kind::Response, 0, 1), BY_CHAIN),
+        (two(Kind::ChainPrecedence, 0, 1), BY_CHAIN),
+        (two(Kind::AlternatePrecedence, 0, 1), BY_CHAIN),
+        (two(Kind::Precedence, 0, 1), BY_CHAIN),
+        (two(Kind::RespondedExistence, 0, 1), BY_CHAIN),
+        (two(Kind::RespondedExistence, 1, 0), BY_CHAIN),
         (two(Kind::NotSuccession, 1, 0), Decision::FirstPass),
         (
             two(Kind::NotChainSuccession, 1, 0),

@@ -40,40 +40,6 @@ fn end() -> Table
     }
 }
 
-// The first activity comes.
-fn participation() -> Table
-    ensures table { IsTable result }
-    ensures states { result.states ≡ 2 }
-{
-    let mut next = [[1; 3]; 12];
-    next[0] = [1, 0, 0];
-    let mut accepting = [false; 12];
-    accepting[1] = true;
-    Table {
-        states: 2,
-        start: 0,
-        next,
-        accepting,
-    }
-}
-
-// After the last of the first activity stands one of the second.
-fn response() -> Table
-    ensures table { IsTable result }
-    ensures states { result.states ≡ 2 }
-{
-    let mut next = [[1, 0, 0]; 12];
-    next[1] = [1, 0, 1];
-    let mut accepting = [false; 12];
-    accepting[0] = true;
-    Table {
-        states: 2,
-        start: 0,
-        next,
-        accepting,
-    }
-}
-
 const BEGINS: Constraint = Constraint {
     kind: Kind::Init,
     first: 0,
@@ -84,18 +50,6 @@ const ENDS: Constraint = Constraint {
     kind: Kind::End,
     first: 1,
     second: 1,
-};
-
-const ANSWERED: Constraint = Constraint {
-    kind: Kind::Response,
-    first: 3,
-    second: 7,
-};
-
-const COMES: Constraint = Constraint {
-    kind: Kind::Participation,
-    first: 500,
-    second: 500,
 };
 
 fn is_trace(found: &Option<Trace>, events: &[u32]) -> bool {
@@ -149,26 +103,6 @@ fn nothing_is_accepted(rt: HostRuntime) -> Result<(), Fail> {
         },
     )?;
     assert!(rt; first_trace(alloc, &none, &Want::Accepted)?.is_none());
-    Ok(())
-}
-
-// Of a thousand symbols those that nothing names are one column.
-#[test]
-fn few_columns_of_many_symbols(rt: HostRuntime) -> Result<(), Fail> {
-    let alloc = rt.alloc();
-    let all = Dfa::everything(alloc, 1_000)?;
-    let answering = meet(alloc, &all, &response(), &ANSWERED)?;
-    let once = meet(alloc, &all, &participation(), &COMES)?;
-    assert_eq!(rt;
-        (all.columns(), answering.columns(), once.columns()),
-        (1, 3, 2)
-    );
-    assert!(rt; is_trace(&first_trace(alloc, &once, &Want::Accepted)?, &[500]));
-    let beside = Want::Beside {
-        table: response(),
-        constraint: ANSWERED,
-    };
-    assert!(rt; is_trace(&first_trace(alloc, &once, &beside)?, &[3, 500]));
     Ok(())
 }
 

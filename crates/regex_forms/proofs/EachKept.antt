@@ -115,11 +115,11 @@ kept NotCoExistence a b trace made = of_two not_co_existence.next_after not_co_e
 kept NotSuccession a b trace made = of_two not_succession.next_after not_succession.accepts (tree_of NotSuccession) refl a b trace (not_succession_law.kept a b trace made)
 kept NotChainSuccession a b trace made = of_two not_chain_succession.next_after not_chain_succession.accepts (tree_of NotChainSuccession) refl a b trace (not_chain_succession_law.kept a b trace made)
 kept (Exactly n) a b trace made =
-    of_one (counted.next_after (n + 1)) (counted.accepts_at n) (tree_of (Exactly n)) (exactly_table n made.1.1) a b trace made.0 (counted_law.exactly_kept n a b trace)
+    of_one (counted.next_after (n + 1)) (counted.accepts_at n) (tree_of (Exactly n)) (exactly_table n made.1.1) a b trace made.0 (counted_law.exactly_kept n a b trace made)
 kept (AtLeast n) a b trace made =
-    of_one (counted.next_after n) (counted.accepts_at n) (tree_of (AtLeast n)) (at_least_table n made.1.1) a b trace made.0 (counted_law.at_least_kept n a b trace)
+    of_one (counted.next_after n) (counted.accepts_at n) (tree_of (AtLeast n)) (at_least_table n made.1.1) a b trace made.0 (counted_law.at_least_kept n a b trace made)
 kept (AtMost n) a b trace made =
-    of_one (counted.next_after (n + 1)) (counted.accepts_below (n + 1)) (tree_of (AtMost n)) (at_most_table n made.1.1) a b trace made.0 (counted_law.at_most_kept n a b trace)
+    of_one (counted.next_after (n + 1)) (counted.accepts_below (n + 1)) (tree_of (AtMost n)) (at_most_table n made.1.1) a b trace made.0 (counted_law.at_most_kept n a b trace made)
 kept NotRespondedExistence a b trace made = of_two not_co_existence.next_after not_co_existence.accepts (tree_of NotRespondedExistence) refl a b trace (one_sided.responded_existence_kept a b trace made)
 kept NotResponse a b trace made = of_two not_succession.next_after not_succession.accepts (tree_of NotResponse) refl a b trace (one_sided.response_kept a b trace made)
 kept NotPrecedence a b trace made = of_two not_succession.next_after not_succession.accepts (tree_of NotPrecedence) refl a b trace (one_sided.precedence_kept a b trace made)

@@ -2,6 +2,14 @@
 //! and not by this program.
 ghost use Rattle.std.specs.Prelude.{◌<◌};
 
+mod automata;
+mod certified;
+mod commands;
+mod faults;
+mod limits;
+mod reports;
+mod running;
+
 use decl_base::{Name, Status};
 use decl_outside::{Inputs, MemInputs, MemSink};
 use minerful_core::run;
@@ -19,22 +27,22 @@ const HALF: &str = "mine --stage consistent --support 0.5 --confidence 0 --inter
 
 /// What a run gave.
 #[derive(Drop)]
-pub(crate) struct Ran {
-    pub status: Status,
-    pub out: MemSink,
-    pub err: MemSink,
+struct Ran {
+    status: Status,
+    out: MemSink,
+    err: MemSink,
 }
 
 /// Which calls of the inputs and of the two sinks fail, and how many bytes a call moves.
 #[derive(Clone, Copy)]
-pub(crate) struct Outside<'a> {
-    pub reads: &'a [u64],
-    pub writes: &'a [u64],
-    pub lines: &'a [u64],
-    pub piece: u64,
+struct Outside<'a> {
+    reads: &'a [u64],
+    writes: &'a [u64],
+    lines: &'a [u64],
+    piece: u64,
 }
 
-pub(crate) const CALM: Outside<'static> = Outside {
+const CALM: Outside<'static> = Outside {
     reads: &[],
     writes: &[],
     lines: &[],
@@ -42,12 +50,7 @@ pub(crate) const CALM: Outside<'static> = Outside {
 };
 
 /// Runs the words, parted by spaces, with these bytes as standard input and as the file `log.txt`.
-pub(crate) fn run_with(
-    alloc: Global,
-    words: &str,
-    bytes: &[u8],
-    outside: Outside,
-) -> Result<Ran, Fail>
+fn run_with(alloc: Global, words: &str, bytes: &[u8], outside: Outside) -> Result<Ran, Fail>
     requires { 0 < outside.piece }
 {
     let mut inputs = MemInputs::new(alloc, outside.piece, outside.reads.to_vec(alloc)?);
@@ -57,7 +60,7 @@ pub(crate) fn run_with(
 }
 
 /// Runs the words, parted by spaces, on these inputs.
-pub(crate) fn run_on<I: Inputs>(
+fn run_on<I: Inputs>(
     alloc: Global,
     words: &str,
     inputs: &mut I,
@@ -73,6 +76,30 @@ pub(crate) fn run_on<I: Inputs>(
     let mut err = MemSink::new(alloc, ROOM, outside.piece, outside.lines.to_vec(alloc)?)?;
     let status = run(alloc, &list, inputs, &mut out, &mut err);
     Ok(Ran { status, out, err })
+}
+
+/// Runs the words with this model as the file `m` and this log as standard input.
+fn run_check(alloc: Global, words: &str, model: &[u8], log: &[u8]) -> Result<Ran, Fail> {
+    let mut inputs = MemInputs::new(alloc, CALM.piece, Vec::new(alloc));
+    inputs.put(Name::of(alloc, "m")?, model.to_vec(alloc)?)?;
+    inputs.put(Name::of(alloc, "-")?, log.to_vec(alloc)?)?;
+    run_on(alloc, words, &mut inputs, CALM)
+}
+
+/// The piece so many times, between these.
+fn repeated(
+    alloc: Global,
+    before: &[u8],
+    piece: &[u8],
+    times: u32,
+    after: &[u8],
+) -> Result<Vec<u8>, Fail> {
+    let mut bytes = before.to_vec(alloc)?;
+    for _ in 0..times {
+        bytes.extend_from_slice(piece)?;
+    }
+    bytes.extend_from_slice(after)?;
+    Ok(bytes)
 }
 
 #[test]

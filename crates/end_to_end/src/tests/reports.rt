@@ -1,5 +1,5 @@
 //! Whole reports, each worked out by hand.
-use crate::tests::{CALM, run_with};
+use super::{CALM, run_with};
 use decl_base::Status;
 use std::alloc::Global;
 use std::test::Fail;

@@ -1,7 +1,7 @@
 //! Runs in which one call of the outside fails, each call in its turn.
-use crate::commands::RESPONSE;
-use crate::reports::CASES;
-use crate::tests::{CALM, Outside, Ran, run_on, run_with};
+use super::commands::RESPONSE;
+use super::reports::CASES;
+use super::{CALM, Outside, Ran, run_on, run_with};
 use decl_base::{Name, Status};
 use decl_outside::{MemInputs, PlainInputs, PlainSink, write_all};
 use std::alloc::Global;

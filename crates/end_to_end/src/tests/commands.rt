@@ -1,17 +1,7 @@
 //! Logs that are checked against a model, models that are compared and analysed, and a log that is generated and mined.
-use crate::tests::{CALM, Ran, run_on, run_with};
-use decl_base::{Name, Status};
-use decl_outside::MemInputs;
-use std::alloc::Global;
+use super::{CALM, run_check, run_with};
+use decl_base::Status;
 use std::test::Fail;
-
-/// Runs the words with this model as the file `m` and this log as standard input.
-pub(crate) fn run_check(alloc: Global, words: &str, model: &[u8], log: &[u8]) -> Result<Ran, Fail> {
-    let mut inputs = MemInputs::new(alloc, CALM.piece, Vec::new(alloc));
-    inputs.put(Name::of(alloc, "m")?, model.to_vec(alloc)?)?;
-    inputs.put(Name::of(alloc, "-")?, log.to_vec(alloc)?)?;
-    run_on(alloc, words, &mut inputs, CALM)
-}
 
 pub(crate) const RESPONSE: &[u8] =
     b"{\"constraints\":[{\"template\":\"Response\",\"parameters\":[[\"a\"],[\"b\"]],\"support\":0.98}]}";
@@ -79,48 +69,50 @@ const NAMED: &[u8] =
 const WITH_MORE: &[u8] =
     b"{\"constraints\":[{\"template\":\"Init\",\"parameters\":[[\"a\"]]},{\"template\":\"NotCoExistence\",\"parameters\":[[\"a\"],[\"b\"]]},{\"template\":\"Participation\",\"parameters\":[[\"a\"]]}]}";
 
+/// Words, the model that stands as the file `m` and the one on standard input, how the run ends and what it prints.
+const COMPARED: &[(&str, &[u8], &[u8], Status, &str)] = &[
+    (
+        "compare m -",
+        CHAIN,
+        ALTERNATE,
+        Status::Differs,
+        "stronger\nonly first -\nonly second [\"a\",null,\"b\"]\n",
+    ),
+    (
+        "compare m -",
+        INIT,
+        END,
+        Status::Differs,
+        "neither\nonly first [\"a\",null]\nonly second [null,\"a\"]\n",
+    ),
+    (
+        "compare m -",
+        NAMED,
+        ALTERNATE,
+        Status::Done,
+        "equal\nonly first -\nonly second -\n",
+    ),
+    (
+        "analyse m",
+        WITH_MORE,
+        b"",
+        Status::Done,
+        "accepts [\"a\"]\ndead [\"b\"]\nredundant [3]\ntrace [\"a\"]\ntrace [\"a\",\"a\"]\ntrace [\"a\",null]\n",
+    ),
+    (
+        "analyse m --first 1",
+        INIT,
+        b"",
+        Status::Done,
+        "accepts [\"a\"]\ndead []\nredundant []\ntrace [\"a\"]\n",
+    ),
+];
+
 #[test]
 fn models_are_compared_and_analysed(rt: HostRuntime) -> Result<(), Fail> {
-    let cases: [(&str, &[u8], &[u8], Status, &str); 5] = [
-        (
-            "compare m -",
-            CHAIN,
-            ALTERNATE,
-            Status::Differs,
-            "stronger\nonly first -\nonly second [\"a\",null,\"b\"]\n",
-        ),
-        (
-            "compare m -",
-            INIT,
-            END,
-            Status::Differs,
-            "neither\nonly first [\"a\",null]\nonly second [null,\"a\"]\n",
-        ),
-        (
-            "compare m -",
-            NAMED,
-            ALTERNATE,
-            Status::Done,
-            "equal\nonly first -\nonly second -\n",
-        ),
-        (
-            "analyse m",
-            WITH_MORE,
-            b"",
-            Status::Done,
-            "accepts [\"a\"]\ndead [\"b\"]\nredundant [3]\ntrace [\"a\"]\ntrace [\"a\",\"a\"]\ntrace [\"a\",null]\n",
-        ),
-        (
-            "analyse m --first 1",
-            INIT,
-            b"",
-            Status::Done,
-            "accepts [\"a\"]\ndead []\nredundant []\ntrace [\"a\"]\n",
-        ),
-    ];
-    for (words, first, second, status, want) in cases {
+    for (words, first, second, status, want) in COMPARED {
         let ran = run_check(rt.alloc(), words, first, second)?;
-        assert_eq!(rt; ran.status, status);
+        assert_eq!(rt; ran.status, *status);
         assert_eq!(rt; ran.out.bytes(), want.as_bytes());
         assert!(rt; ran.err.bytes().is_empty());
     }

@@ -1,7 +1,6 @@
 //! Logs of running cases that are watched by a model, line by line. Each text was worked out from the definitions.
-use crate::commands::{RESPONSE, run_check};
-use crate::limits::repeated;
-use crate::tests::{CALM, Outside, run_on};
+use super::commands::RESPONSE;
+use super::{CALM, Outside, repeated, run_check, run_on};
 use decl_base::{Name, Status};
 use decl_outside::MemInputs;
 use std::test::Fail;
@@ -42,9 +41,49 @@ fn cases_are_watched(rt: HostRuntime) -> Result<(), Fail> {
     Ok(())
 }
 
+/// Words, a model and a log, how the run ends, and what stands on the two sinks.
+const REFUSED: &[(&str, &[u8], &str, Status, &str, &str)] = &[
+    (
+        "monitor m",
+        RESPONSE_ONCE,
+        "1\ta\nx\n",
+        Status::BadLog,
+        "1 \"1\" b bk\n",
+        "minerful: line 2 has no tab\n",
+    ),
+    (
+        "monitor m --max-states 1",
+        RESPONSE,
+        "x\n",
+        Status::Limit,
+        "",
+        "minerful: too many states, phase 5, constraints 1\n",
+    ),
+    (
+        "monitor -",
+        RESPONSE,
+        "x\n",
+        Status::Usage,
+        "",
+        "minerful: usage, place 17\n",
+    ),
+];
+
 /// What the lines before the first at fault come to stays, and a model is refused before any line is read.
 #[test]
 fn running_cases_that_are_refused(rt: HostRuntime) -> Result<(), Fail> {
+    for (words, model, log, status, out, err) in REFUSED {
+        let ran = run_check(rt.alloc(), words, model, log.as_bytes())?;
+        assert_eq!(rt; ran.status, *status);
+        assert_eq!(rt; ran.out.bytes(), out.as_bytes());
+        assert_eq!(rt; ran.err.bytes(), err.as_bytes());
+    }
+    Ok(())
+}
+
+/// A model of so many constraints is refused before any line is read.
+#[test]
+fn too_many_constraints_to_watch(rt: HostRuntime) -> Result<(), Fail> {
     let constraint = "{\"template\":\"Init\",\"parameters\":[[\"a\"]]}";
     let piece = format!(in rt.alloc(); "{constraint},")?;
     let end = format!(in rt.alloc(); "{constraint}]}}")?;
@@ -55,46 +94,13 @@ fn running_cases_that_are_refused(rt: HostRuntime) -> Result<(), Fail> {
         1000,
         end.as_bytes(),
     )?;
-    let cases = [
-        (
-            "monitor m",
-            RESPONSE_ONCE,
-            "1\ta\nx\n",
-            Status::BadLog,
-            "1 \"1\" b bk\n",
-            "minerful: line 2 has no tab\n",
-        ),
-        (
-            "monitor m",
-            many.as_slice(),
-            "x\n",
-            Status::Limit,
-            "",
-            "minerful: 1001 constraints are too many\n",
-        ),
-        (
-            "monitor m --max-states 1",
-            RESPONSE,
-            "x\n",
-            Status::Limit,
-            "",
-            "minerful: too many states, phase 5, constraints 1\n",
-        ),
-        (
-            "monitor -",
-            RESPONSE,
-            "x\n",
-            Status::Usage,
-            "",
-            "minerful: usage, place 17\n",
-        ),
-    ];
-    for (words, model, log, status, out, err) in cases {
-        let ran = run_check(rt.alloc(), words, model, log.as_bytes())?;
-        assert_eq!(rt; ran.status, status);
-        assert_eq!(rt; ran.out.bytes(), out.as_bytes());
-        assert_eq!(rt; ran.err.bytes(), err.as_bytes());
-    }
+    let ran = run_check(rt.alloc(), "monitor m", &many, b"x\n")?;
+    assert_eq!(rt; ran.status, Status::Limit);
+    assert!(rt; ran.out.bytes().is_empty());
+    assert_eq!(rt;
+        ran.err.bytes(),
+        b"minerful: 1001 constraints are too many\n".as_slice()
+    );
     Ok(())
 }
 

@@ -1,6 +1,5 @@
 //! Certificates that the program makes, as they are and changed, and files that are none.
-use crate::commands::run_check;
-use crate::tests::{CALM, run_with};
+use super::{CALM, run_check, run_with};
 use decl_base::Status;
 use std::alloc::Global;
 use std::str::from_utf8;

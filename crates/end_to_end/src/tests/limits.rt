@@ -1,7 +1,6 @@
 //! Logs and models that just meet a limit, and those that are beyond it. What stands on the two sinks was worked out by
 //! hand.
-use crate::commands::run_check;
-use crate::tests::{CALM, Outside, run_with};
+use super::{CALM, Outside, repeated, run_check, run_with};
 use decl_base::Status;
 use std::alloc::Global;
 use std::test::Fail;
@@ -11,22 +10,6 @@ const FAST: Outside<'static> = Outside {
     piece: 4096,
     ..CALM
 };
-
-/// The piece so many times, between these.
-pub(crate) fn repeated(
-    alloc: Global,
-    before: &[u8],
-    piece: &[u8],
-    times: u32,
-    after: &[u8],
-) -> Result<Vec<u8>, Fail> {
-    let mut bytes = before.to_vec(alloc)?;
-    for _ in 0..times {
-        bytes.extend_from_slice(piece)?;
-    }
-    bytes.extend_from_slice(after)?;
-    Ok(bytes)
-}
 
 /// So many different characters, from U+4E00 on.
 fn characters(alloc: Global, count: u32) -> Result<String, Fail> {
